@@ -1,0 +1,97 @@
+-- 01, The book and its listing: the listing is the octets that `verdicts` prints.
+use Prim.Native.Nat.{ℕ, zero, suc, _+_, _-_, _/_, _%_}
+use mathlib.Core.List.{List, [], _∷_, _++_}
+use mathlib.Core.Bool.{Bool, cond, not, _&&_, _||_}
+use lib.ListN.{length, getD, take, drop}
+use lib.Dec.{ltb, leb, eqb}
+use Rattle.rules.specs.declared.Verdict.{Verdict}
+use Rattle.rules.specs.Octets.{numberAt}
+use Rattle.rules.specs.Header.{headerSize}
+use Rattle.rules.specs.Command.{commandVerdict}
+
+-- a number in decimal; the first argument bounds its digits
+unfoldable pub digits : ℕ → ℕ → List ℕ
+digits zero n = []
+digits (suc k) n = cond (ltb n 10) ((48 + n) ∷ []) (digits k (n / 10) ++ ((48 + n % 10) ∷ []))
+
+-- every number of a listing has at most ten digits
+abbrev pub decimal : ℕ → List ℕ
+decimal n = digits 10 n
+
+abbrev pub space : ℕ
+space = 32
+
+abbrev pub newline : ℕ
+newline = 10
+
+-- numbers of a line, one space between
+abbrev pub spaced : List ℕ → List ℕ
+spaced [] = []
+spaced (n ∷ ns) = space ∷ decimal n ++ spaced ns
+
+-- "NTB 1", "end", "cut", "not a book"
+abbrev pub headLine : List ℕ
+headLine = 78 ∷ 84 ∷ 66 ∷ 32 ∷ 49 ∷ newline ∷ []
+
+abbrev pub endWord : List ℕ
+endWord = 101 ∷ 110 ∷ 100 ∷ []
+
+abbrev pub cutWord : List ℕ
+cutWord = 99 ∷ 117 ∷ 116 ∷ []
+
+abbrev pub notABook : List ℕ
+notABook = 110 ∷ 111 ∷ 116 ∷ 32 ∷ 97 ∷ 32 ∷ 98 ∷ 111 ∷ 111 ∷ 107 ∷ newline ∷ []
+
+-- ordinal, offset, number, place, vendor, code
+abbrev pub commandLine : ℕ → ℕ → Verdict → List ℕ
+commandLine ordinal offset v =
+    decimal ordinal ++ (spaced (offset ∷ v .number ∷ v .place ∷ v .vendor ∷ v .code ∷ []) ++ (newline ∷ []))
+
+-- ordinal, offset and `cut`
+abbrev pub cutLine : ℕ → ℕ → List ℕ
+cutLine ordinal offset = decimal ordinal ++ (spaced (offset ∷ []) ++ (space ∷ cutWord ++ (newline ∷ [])))
+
+-- `end` with commands and acceptances
+abbrev pub endLine : ℕ → ℕ → List ℕ
+endLine commands accepted = endWord ++ (spaced (commands ∷ accepted ∷ []) ++ (newline ∷ []))
+
+-- the length field of the command at an offset
+abbrev pub lengthOf : List ℕ → ℕ → ℕ
+lengthOf s at = numberAt 3 s (at + 1)
+
+-- one to three octets left, a length under 20, or one past the end
+unfoldable pub isCut : List ℕ → ℕ → Bool
+isCut s at = ltb (length s - at) 4 || ltb (lengthOf s at) headerSize || ltb (length s - at) (lengthOf s at)
+
+-- the command at an offset, cut by the length field alone
+abbrev pub commandIn : List ℕ → ℕ → List ℕ
+commandIn s at = take (lengthOf s at) (drop at s)
+
+-- 1 where a command is accepted
+abbrev pub acceptance : Verdict → ℕ
+acceptance v = cond (eqb (v .number) 0) 1 0
+
+-- the lines from an offset on, after this many commands and acceptances. The first argument bounds the lines
+unfoldable pub linesFrom : ℕ → List ℕ → ℕ → ℕ → ℕ → List ℕ
+linesFrom zero s at commands accepted = []
+linesFrom (suc n) s at commands accepted =
+    cond (leb (length s) at) (endLine commands accepted)
+    (cond (isCut s at) (cutLine (commands + 1) at)
+    (commandLine (commands + 1) at (commandVerdict (commandIn s at))
+    ++ linesFrom n s (at + lengthOf s at) (commands + 1) (accepted + acceptance (commandVerdict (commandIn s at)))))
+
+-- the letters NTB, a 16-bit version 1
+abbrev pub bookHead : ℕ
+bookHead = 5
+
+abbrev pub longestBook : ℕ
+longestBook = 65536
+
+-- a head, and no more than 65,536 octets
+unfoldable pub isBook : List ℕ → Bool
+isBook s =
+    leb bookHead (length s) && leb (length s) longestBook && eqb (numberAt 3 s 0) 0x4e5442 && eqb (numberAt 2 s 3) 1
+
+-- the whole listing
+unfoldable pub listing : List ℕ → List ℕ
+listing s = cond (isBook s) (headLine ++ linesFrom (length s) s bookHead 0 0) notABook

@@ -1,0 +1,42 @@
+-- 01, Order of checks: header, walk, rows, exchange rules, windows; the first that applies is the answer.
+use Prim.Native.Nat.{ℕ}
+use mathlib.Core.List.{List}
+use mathlib.Core.Bool.{Bool, cond}
+use lib.ListN.{length}
+use Rattle.rules.specs.declared.Avp.{Avp}
+use Rattle.rules.specs.declared.Verdict.{Verdict}
+use Rattle.rules.specs.declared.Outcome.{Outcome}
+use Rattle.rules.specs.declared.Outcome.the-variants.{Pass, Refused}
+use Rattle.rules.specs.declared.Grammar.{Grammar}
+use Rattle.rules.specs.declared.Grammar.the-variants.{Request, Answer}
+use Rattle.rules.specs.Verdict.{orElse, verdictOf}
+use Rattle.rules.specs.Header.{headerSize, headerOutcome, commandFlags, isRequest}
+use Rattle.rules.specs.Dictionary.{dictionary}
+use Rattle.rules.specs.Walk.{Walked, whole, stopped, walkList}
+use Rattle.rules.specs.RowChecks.{rowsOutcome}
+use Rattle.rules.specs.Exchange.{exchangeOutcome}
+
+-- the rows of a command go by R
+abbrev pub commandGrammar : ℕ → Grammar
+commandGrammar flags = cond (isRequest flags) Request Answer
+
+-- the walk of a command's own list, which is at depth 1
+unfoldable pub walkOf : List ℕ → Walked
+walkOf s = walkList (length s) dictionary s headerSize (length s) 1 0
+
+-- rows and exchange rules over the AVPs of the walk
+unfoldable pub listsOutcome : List ℕ → List Avp → Outcome
+listsOutcome s xs =
+    orElse (rowsOutcome dictionary (commandGrammar (commandFlags s)) (length s) xs)
+    (exchangeOutcome (isRequest (commandFlags s)) xs s (length s))
+
+abbrev pub walkedOutcome : List ℕ → Walked → Outcome
+walkedOutcome s (whole xs) = listsOutcome s xs
+walkedOutcome s (stopped xs v) = Refused v
+
+unfoldable pub commandOutcome : List ℕ → Outcome
+commandOutcome s = orElse (headerOutcome s) (walkedOutcome s (walkOf s))
+
+-- the one answer to a slice of octets
+unfoldable pub commandVerdict : List ℕ → Verdict
+commandVerdict s = verdictOf (commandOutcome s)

@@ -1,0 +1,82 @@
+-- 01, Dictionary: its entries, and the search for a name.
+use Prim.Native.Nat.{ℕ}
+use mathlib.Core.List.{List, [], _∷_, _++_, map}
+use mathlib.Core.Bool.{Bool, true, false, cond, _&&_}
+use lib.Dec.{eqb}
+use Rattle.rules.specs.declared.Form.{Form}
+use Rattle.rules.specs.declared.Form.the-variants.{Any, Fixed, Group}
+use Rattle.rules.specs.declared.Definition.{Definition}
+use Rattle.rules.specs.declared.Definition.the-variants.{Known, Unknown}
+use Rattle.rules.specs.declared.Grammar.the-variants.{VendorSpecificApplicationId, ExperimentalResult, ProxyInfo, SupportedFeatures, TimeWindow, TransferPolicy}
+
+pub record Entry : Type 0 where
+  pub vendor : ℕ
+  pub code : ℕ
+  pub m : Bool
+  pub form : Form
+
+-- entries of one vendor, one rule for M and one form
+abbrev pub entries : ℕ → Bool → Form → List ℕ → List Entry
+entries vendor m form [] = []
+entries vendor m form (code ∷ codes) = record { vendor = vendor; code = code; m = m; form = form } ∷ entries vendor m form codes
+
+-- the dictionary of the Nt application
+unfoldable pub dictionary : List Entry
+dictionary =
+    -- RFC 6733, no vendor
+    entries 0 true (Fixed 4) (258 ∷ 259 ∷ 261 ∷ 262 ∷ 266 ∷ 268 ∷ 277 ∷ 278 ∷ 298 ∷ [])
+    ++ (entries 0 true Any (263 ∷ 264 ∷ 296 ∷ 293 ∷ 283 ∷ 292 ∷ 280 ∷ 33 ∷ 282 ∷ 279 ∷ [])
+    ++ (entries 0 false Any (281 ∷ 294 ∷ [])
+    ++ (entries 0 true (Group VendorSpecificApplicationId) (260 ∷ [])
+    ++ (entries 0 true (Group ExperimentalResult) (297 ∷ [])
+    ++ (entries 0 true (Group ProxyInfo) (284 ∷ [])
+    -- RFC 4006, no vendor
+    ++ (entries 0 true (Fixed 4) (432 ∷ [])
+    ++ (entries 0 true (Fixed 8) (412 ∷ 414 ∷ 421 ∷ [])
+    -- no vendor, M free
+    ++ (entries 0 false (Fixed 4) (301 ∷ [])
+    ++ (entries 0 false Any (621 ∷ 623 ∷ 650 ∷ [])
+    -- 3GPP, M free
+    ++ (entries 10415 false (Fixed 4) (629 ∷ 630 ∷ [])
+    ++ (entries 10415 false Any (532 ∷ 2207 ∷ [])
+    ++ (entries 10415 false (Group SupportedFeatures) (628 ∷ [])
+    -- 3GPP, M
+    ++ (entries 10415 true (Fixed 4) (515 ∷ 516 ∷ 4203 ∷ 4205 ∷ 4206 ∷ 4208 ∷ 4209 ∷ [])
+    ++ (entries 10415 true Any (4201 ∷ 4202 ∷ [])
+    ++ (entries 10415 true (Group TimeWindow) (4204 ∷ [])
+    ++ entries 10415 true (Group TransferPolicy) (4207 ∷ []))))))))))))))))
+
+-- what a dictionary says of a vendor and a code
+unfoldable pub find : List Entry → ℕ → ℕ → Definition
+find [] vendor code = Unknown
+find (e ∷ es) vendor code =
+    cond (eqb vendor (e .vendor) && eqb code (e .code)) (Known (e .m) (e .form)) (find es vendor code)
+
+-- M must be set
+abbrev pub requiresM : Definition → Bool
+requiresM (Known m form) = m
+requiresM Unknown = false
+
+abbrev pub isKnown : Definition → Bool
+isKnown (Known m form) = true
+isKnown Unknown = false
+
+-- a group whose data is read
+abbrev pub isGroupForm : Form → Bool
+isGroupForm Any = false
+isGroupForm (Fixed w) = false
+isGroupForm (Group g) = true
+
+abbrev pub isGroup : Definition → Bool
+isGroup (Known m form) = isGroupForm form
+isGroup Unknown = false
+
+-- whether data of this length meets the form's width
+abbrev pub fitsForm : Form → ℕ → Bool
+fitsForm Any length = true
+fitsForm (Fixed w) length = eqb length w
+fitsForm (Group g) length = true
+
+abbrev pub fitsWidth : Definition → ℕ → Bool
+fitsWidth (Known m form) length = fitsForm form length
+fitsWidth Unknown length = true

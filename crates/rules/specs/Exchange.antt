@@ -1,0 +1,144 @@
+-- 01, Exchange rules (clause 4.4.1), over the AVPs of the walk: those of a request, those of an answer, and the windows.
+-- `end` is the end of the command's own list.
+use Prim.Native.Nat.{ℕ, _+_}
+use mathlib.Core.List.{List, [], _∷_}
+use mathlib.Core.Bool.{Bool, cond, _&&_}
+use lib.ListN.{getD, drop}
+use lib.Dec.{ltb, eqb}
+use Rattle.rules.specs.declared.Avp.{Avp}
+use Rattle.rules.specs.declared.Outcome.{Outcome}
+use Rattle.rules.specs.declared.Outcome.the-variants.{Pass, Refused}
+use Rattle.rules.specs.declared.Found.{Found}
+use Rattle.rules.specs.declared.Found.the-variants.{At, Nothing}
+use Rattle.rules.specs.Octets.{numberAt}
+use Rattle.rules.specs.Verdict.{refused, refuseIf, orElse}
+use Rattle.rules.specs.Avp.{named, placeOf, endOf}
+use Rattle.rules.specs.RowChecks.{memberFault}
+
+-- all numbers 0
+abbrev pub blank : Avp
+blank = record { depth = 0; vendor = 0; code = 0; m = Bool.false; p = Bool.false; start = 0; length = 0 }
+
+-- the AVP at a position
+abbrev pub avpIn : List Avp → ℕ → Avp
+avpIn xs i = getD xs i blank
+
+-- the position, counted from i, of the first AVP at a depth with a vendor and code, before any AVP above the depth `floor`
+unfoldable pub firstFrom : ℕ → ℕ → ℕ → List Avp → ℕ → ℕ → Found
+firstFrom i floor depth [] vendor code = Nothing
+firstFrom i floor depth (a ∷ xs) vendor code =
+    cond (ltb (a .depth) floor) Nothing
+    (cond (eqb (a .depth) depth && named a vendor code) (At i) (firstFrom (i + 1) floor depth xs vendor code))
+
+-- a search gives the first AVP at depth 1 with a vendor and code
+abbrev pub search : List Avp → ℕ → ℕ → Found
+search xs vendor code = firstFrom 0 0 1 xs vendor code
+
+-- the first member of the group at position i, whose members stand at this depth
+abbrev pub member : List Avp → ℕ → ℕ → ℕ → ℕ → Found
+member xs i depth vendor code = firstFrom (i + 1) depth depth (drop (i + 1) xs) vendor code
+
+-- none is 5005 at the end of the list that lacks it
+abbrev pub present : ℕ → ℕ → ℕ → Found → Outcome
+present end vendor code (At i) = Pass
+present end vendor code Nothing = refused 5005 end vendor code
+
+abbrev pub require : List Avp → ℕ → ℕ → ℕ → Outcome
+require xs end vendor code = present end vendor code (search xs vendor code)
+
+-- one of 414, 412, 421, reported as 414
+abbrev pub isFound : Found → Bool
+isFound (At i) = Bool.true
+isFound Nothing = Bool.false
+
+unfoldable pub volume : List Avp → ℕ → Outcome
+volume xs end =
+    cond (isFound (search xs 0 412)) Pass (cond (isFound (search xs 0 421)) Pass (require xs end 0 414))
+
+-- BTR with 4203 = 0
+unfoldable pub firstRequest : List Avp → ℕ → Outcome
+firstRequest xs end =
+    orElse (require xs end 10415 532) (orElse (volume xs end) (orElse (require xs end 10415 4209) (require xs end 10415 4204)))
+
+-- BTR with 4203 = 1
+unfoldable pub laterRequest : List Avp → ℕ → Outcome
+laterRequest xs end = orElse (require xs end 10415 4202) (orElse (require xs end 10415 4208) (require xs end 0 293))
+
+-- the rules of a request, by its Transfer-Request-Type
+abbrev pub byRequestType : List Avp → ℕ → ℕ → Outcome
+byRequestType xs end type = cond (eqb type 0) (firstRequest xs end) (cond (eqb type 1) (laterRequest xs end) Pass)
+
+abbrev pub requestBy : List Avp → List ℕ → ℕ → Found → Outcome
+requestBy xs s end (At i) = byRequestType xs end (numberAt 4 s (avpIn xs i .start))
+requestBy xs s end Nothing = refused 5005 end 10415 4203
+
+unfoldable pub requestOutcome : List Avp → List ℕ → ℕ → Outcome
+requestOutcome xs s end = requestBy xs s end (search xs 10415 4203)
+
+-- BTA: neither 268 nor 297 is 5005 for 268; both are 5008 at 297
+abbrev pub resultBy : List Avp → ℕ → Found → Found → Outcome
+resultBy xs end (At i) (At j) = memberFault 5008 (avpIn xs j)
+resultBy xs end (At i) Nothing = Pass
+resultBy xs end Nothing (At j) = Pass
+resultBy xs end Nothing Nothing = refused 5005 end 0 268
+
+unfoldable pub resultOutcome : List Avp → ℕ → Outcome
+resultOutcome xs end = resultBy xs end (search xs 0 268) (search xs 0 297)
+
+-- with two or more 4207: 2207. The second is the first at depth 1 after the first
+abbrev pub ifFound : Found → Outcome → Outcome
+ifFound (At i) o = o
+ifFound Nothing o = Pass
+
+-- with any 4207: 4202
+abbrev pub policiesBy : List Avp → ℕ → Found → Outcome
+policiesBy xs end (At i) =
+    orElse (require xs end 10415 4202)
+    (ifFound (firstFrom (i + 1) 0 1 (drop (i + 1) xs) 10415 4207) (require xs end 10415 2207))
+policiesBy xs end Nothing = Pass
+
+unfoldable pub policiesOutcome : List Avp → ℕ → Outcome
+policiesOutcome xs end = policiesBy xs end (search xs 10415 4207)
+
+-- the 4207 at position i holds 4204, then 432, else 5005 at its own end
+unfoldable pub policyOutcome : List Avp → ℕ → Outcome
+policyOutcome xs i =
+    orElse (present (endOf (avpIn xs i)) 10415 4204 (member xs i 2 10415 4204))
+    (present (endOf (avpIn xs i)) 0 432 (member xs i 2 0 432))
+
+-- each 4207 of the command's own list in order, from position i on
+unfoldable pub eachPolicy : List Avp → ℕ → List Avp → Outcome
+eachPolicy xs i [] = Pass
+eachPolicy xs i (a ∷ rest) =
+    orElse (cond (eqb (a .depth) 1 && named a 10415 4207) (policyOutcome xs i) Pass) (eachPolicy xs (i + 1) rest)
+
+unfoldable pub answerOutcome : List Avp → ℕ → Outcome
+answerOutcome xs end = orElse (resultOutcome xs end) (orElse (policiesOutcome xs end) (eachPolicy xs 0 xs))
+
+-- the order of two times: both are read as unsigned numbers
+abbrev pub isBefore : ℕ → ℕ → Bool
+isBefore = ltb
+
+-- the end of a window is greater than its start, else 5004 at 4205
+abbrev pub windowBy : List Avp → List ℕ → ℕ → Found → Found → Outcome
+windowBy xs s end (At i) (At j) =
+    cond (isBefore (numberAt 4 s (avpIn xs i .start)) (numberAt 4 s (avpIn xs j .start))) Pass (memberFault 5004 (avpIn xs j))
+windowBy xs s end (At i) Nothing = refused 5005 end 10415 4205
+windowBy xs s end Nothing (At j) = refused 5005 end 10415 4206
+windowBy xs s end Nothing Nothing = refused 5005 end 10415 4206
+
+-- the 4204 at position i, whose members stand at this depth
+unfoldable pub windowOutcome : List Avp → List ℕ → ℕ → ℕ → Outcome
+windowOutcome xs s i depth =
+    windowBy xs s (endOf (avpIn xs i)) (member xs i depth 10415 4206) (member xs i depth 10415 4205)
+
+-- each 4204 of the walk, from position i on
+unfoldable pub eachWindow : List Avp → List ℕ → ℕ → List Avp → Outcome
+eachWindow xs s i [] = Pass
+eachWindow xs s i (a ∷ rest) =
+    orElse (cond (named a 10415 4204) (windowOutcome xs s i (a .depth + 1)) Pass) (eachWindow xs s (i + 1) rest)
+
+-- the rules of a request or of an answer, then the windows
+unfoldable pub exchangeOutcome : Bool → List Avp → List ℕ → ℕ → Outcome
+exchangeOutcome request xs s end =
+    orElse (cond request (requestOutcome xs s end) (answerOutcome xs end)) (eachWindow xs s 0 xs)

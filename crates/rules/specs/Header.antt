@@ -1,0 +1,72 @@
+-- 01, Header: its fields, and the header's checks in their order.
+use Prim.Native.Nat.{ℕ, _%_}
+use mathlib.Core.List.{List}
+use mathlib.Core.Bool.{Bool, not, _&&_, _||_}
+use lib.ListN.{length, getD}
+use lib.Dec.{ltb, eqb}
+use Rattle.rules.specs.declared.Outcome.{Outcome}
+use Rattle.rules.specs.declared.Outcome.the-variants.{Pass}
+use Rattle.rules.specs.Octets.{numberAt, flag}
+use Rattle.rules.specs.Verdict.{refused, refuseIf}
+
+abbrev pub headerSize : ℕ
+headerSize = 20
+
+-- version 1 octet, length 3, flags 1, command code 3, application 4, two identifiers of 4
+abbrev pub version : List ℕ → ℕ
+version s = getD s 0 0
+
+abbrev pub lengthField : List ℕ → ℕ
+lengthField s = numberAt 3 s 1
+
+abbrev pub commandFlags : List ℕ → ℕ
+commandFlags s = getD s 4 0
+
+abbrev pub commandCode : List ℕ → ℕ
+commandCode s = numberAt 3 s 5
+
+abbrev pub application : List ℕ → ℕ
+application s = numberAt 4 s 8
+
+abbrev pub hopByHop : List ℕ → ℕ
+hopByHop s = numberAt 4 s 12
+
+abbrev pub endToEnd : List ℕ → ℕ
+endToEnd s = numberAt 4 s 16
+
+-- command flags from the top: R, P, E, T; four reserved bits, which are ignored
+abbrev pub isRequest : ℕ → Bool
+isRequest = flag 128
+
+abbrev pub isProxiable : ℕ → Bool
+isProxiable = flag 64
+
+abbrev pub isError : ℕ → Bool
+isError = flag 32
+
+abbrev pub isRetransmitted : ℕ → Bool
+isRetransmitted = flag 16
+
+-- the Nt application, its command code, and the longest command
+abbrev pub applicationNt : ℕ
+applicationNt = 16777348
+
+abbrev pub codeBackgroundDataTransfer : ℕ
+codeBackgroundDataTransfer = 8388723
+
+abbrev pub longestCommand : ℕ
+longestCommand = 16384
+
+-- Order of checks, Header; vendor and code are 0
+unfoldable pub headerOutcome : List ℕ → Outcome
+headerOutcome s =
+    refuseIf (ltb (length s) headerSize) (refused 5015 0 0 0)
+    (refuseIf (not (eqb (version s) 1)) (refused 5011 0 0 0)
+    (refuseIf (ltb (lengthField s) headerSize || not (eqb (lengthField s % 4) 0) || not (eqb (lengthField s) (length s)))
+    (refused 5015 1 0 0)
+    (refuseIf (ltb longestCommand (lengthField s)) (refused 7001 1 0 0)
+    (refuseIf (not (eqb (application s) applicationNt)) (refused 3007 8 0 0)
+    (refuseIf (not (eqb (commandCode s) codeBackgroundDataTransfer)) (refused 3001 5 0 0)
+    (refuseIf (isRequest (commandFlags s) && isError (commandFlags s) || not (isProxiable (commandFlags s))) (refused 3008 4 0 0)
+    (refuseIf (isError (commandFlags s)) (refused 7005 4 0 0)
+    Pass)))))))

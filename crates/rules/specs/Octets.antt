@@ -1,0 +1,24 @@
+-- Octets and numbers: what a list of octets stands for, and what stands at a place of it. Definitions only;
+-- their laws are in proofs/Octets.
+use Prim.Native.Nat.{ℕ, zero, suc, _+_, _*_, _/_, _%_, _^_}
+use mathlib.Core.List.{List, [], _∷_}
+use mathlib.Core.Bool.{Bool, cond}
+use lib.ListN.{length, take, drop, getD}
+use lib.Dec.{leb, eqb}
+
+-- the number that octets stand for, big-endian
+abbrev pub number : List ℕ → ℕ
+number [] = 0
+number (x ∷ xs) = x * 256 ^ length xs + number xs
+
+-- the number in the w octets at a place of s; 0 where they do not all lie in s
+unfoldable pub numberAt : ℕ → List ℕ → ℕ → ℕ
+numberAt w s at = cond (leb (at + w) (length s)) (number (take w (drop at s))) 0
+
+-- whether the flag of this value is set in an octet
+abbrev pub flag : ℕ → ℕ → Bool
+flag value octet = eqb (octet / value % 2) 1
+
+-- 01, AVP: a length with the padding to a multiple of four
+unfoldable pub padded : ℕ → ℕ
+padded n = (n + 3) / 4 * 4

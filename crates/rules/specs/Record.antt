@@ -1,0 +1,69 @@
+-- 01, The record: the record of an accepted command, the empty record, data of a position, and the search.
+use Prim.Native.Nat.{ℕ, _+_, _-_, min}
+use mathlib.Core.List.{List, [], _++_}
+use mathlib.Core.Bool.{Bool, cond, _&&_}
+use lib.ListN.{length, take, drop, getD, replicate}
+use lib.Dec.{ltb, leb}
+use Rattle.rules.specs.declared.Avp.{Avp}
+use Rattle.rules.specs.declared.Record.{Record}
+use Rattle.rules.specs.declared.Reading.{Reading}
+use Rattle.rules.specs.declared.Outcome.{Outcome}
+use Rattle.rules.specs.declared.Outcome.the-variants.{Pass, Refused}
+use Rattle.rules.specs.declared.Found.{Found}
+use Rattle.rules.specs.Header.{commandFlags, hopByHop, endToEnd, isRequest, isProxiable, isError, isRetransmitted}
+use Rattle.rules.specs.Walk.{mostAvps, avpsOf}
+use Rattle.rules.specs.Exchange.{blank, avpIn, search}
+use Rattle.rules.specs.Command.{commandOutcome, commandVerdict, walkOf}
+
+-- AVPs in room for 256; unused places are 0
+abbrev pub inRoom : List Avp → List Avp
+inRoom xs = xs ++ replicate (mostAvps - length xs) blank
+
+-- the record of a command with these AVPs
+unfoldable pub recordOf : List ℕ → List Avp → Record
+recordOf s xs = record {
+  r = isRequest (commandFlags s);
+  p = isProxiable (commandFlags s);
+  e = isError (commandFlags s);
+  t = isRetransmitted (commandFlags s);
+  «hop_by_hop» = hopByHop s;
+  «end_to_end» = endToEnd s;
+  count = length xs;
+  avps = inRoom xs;
+}
+
+-- all numbers 0
+unfoldable pub emptyRecord : Record
+emptyRecord = record {
+  r = Bool.false;
+  p = Bool.false;
+  e = Bool.false;
+  t = Bool.false;
+  «hop_by_hop» = 0;
+  «end_to_end» = 0;
+  count = 0;
+  avps = replicate mostAvps blank;
+}
+
+abbrev pub recordBy : List ℕ → Outcome → Record
+recordBy s Pass = recordOf s (avpsOf (walkOf s))
+recordBy s (Refused v) = emptyRecord
+
+-- what reading a slice of octets gives
+unfoldable pub reading : List ℕ → Reading
+reading s = record { verdict = commandVerdict s; «record» = recordBy s (commandOutcome s) }
+
+-- the AVPs of a record; a count above 256 is read as 256
+abbrev pub recorded : Record → List Avp
+recorded r = take (min (r .count) mostAvps) (r .avps)
+
+-- the part of a slice that an AVP's data is, empty where it does not lie in the slice
+abbrev pub partOf : List ℕ → Avp → List ℕ
+partOf s a = cond (leb (a .start + a .length) (length s)) (take (a .length) (drop (a .start) s)) []
+
+-- the data of the AVP at a position, empty where the position is unused
+unfoldable pub dataAt : Record → ℕ → List ℕ → List ℕ
+dataAt r i s = cond (ltb i (min (r .count) mostAvps)) (partOf s (avpIn (r .avps) i)) []
+
+unfoldable pub searchRecord : Record → ℕ → ℕ → Found
+searchRecord r vendor code = search (recorded r) vendor code

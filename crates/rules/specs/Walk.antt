@@ -1,0 +1,105 @@
+-- 01, Order of checks, Walk: the seven checks of an AVP, and the walk of a list, which gives the AVPs in walk order or
+-- stops at the first fault. The dictionary is an argument throughout.
+use Prim.Native.Nat.{ℕ, zero, suc, _+_, _-_, _%_}
+use mathlib.Core.List.{List, [], _∷_, _++_}
+use mathlib.Core.Bool.{Bool, true, cond, not, _&&_, _||_}
+use lib.ListN.{length}
+use lib.Dec.{ltb, leb, eqb}
+use Rattle.rules.specs.declared.Avp.{Avp}
+use Rattle.rules.specs.declared.Verdict.{Verdict}
+use Rattle.rules.specs.declared.Outcome.{Outcome}
+use Rattle.rules.specs.declared.Outcome.the-variants.{Pass, Refused}
+use Rattle.rules.specs.declared.Checked.{Checked}
+use Rattle.rules.specs.declared.Checked.the-variants.{Fault, Plain, Group}
+use Rattle.rules.specs.declared.Definition.{Definition}
+use Rattle.rules.specs.Octets.{numberAt, padded}
+use Rattle.rules.specs.Verdict.{verdict, refused, refuseIf}
+use Rattle.rules.specs.Avp.{codeAt, flagsAt, flagV, lengthAt, headerOf, vendorAt, nextAt, avpAt, named}
+use Rattle.rules.specs.Dictionary.{Entry, find, requiresM, isKnown, isGroup, fitsWidth}
+
+-- the record has room for 256 AVPs; a group stands no deeper than 3, its members no deeper than 4
+abbrev pub mostAvps : ℕ
+mostAvps = 256
+
+abbrev pub deepest : ℕ
+deepest = 4
+
+-- check 2: the octets that are left in the list hold the AVP. The code is given if 8 are left, the vendor if V is set
+-- and 12 are
+unfoldable pub framing : List ℕ → ℕ → ℕ → Outcome
+framing s at end =
+    refuseIf (ltb (end - at) 8) (refused 5014 at 0 0)
+    (refuseIf (flagV (flagsAt s at) && ltb (end - at) 12) (refused 5014 at 0 (codeAt s at))
+    (refuseIf (ltb (lengthAt s at) (headerOf (flagV (flagsAt s at)))) (refused 5014 at (vendorAt s at) (codeAt s at))
+    (refuseIf (ltb (end - at) (padded (lengthAt s at))) (refused 5014 at (vendorAt s at) (codeAt s at))
+    Pass)))
+
+-- check 3: a reserved flag set, V set with vendor 0, or M clear where the dictionary has M
+abbrev pub wrongFlags : ℕ → Avp → Definition → Bool
+wrongFlags flags a d = not (eqb (flags % 32) 0) || flagV flags && eqb (a .vendor) 0 || requiresM d && not (a .m)
+
+-- check 6: 277 is 1, and 4203 is 0 or 1
+abbrev pub rightValue : Avp → ℕ → Bool
+rightValue a n = cond (named a 0 277) (eqb n 1) (cond (named a 10415 4203) (eqb n 0 || eqb n 1) true)
+
+-- checks 3 to 7 of the AVP at a place, with what the dictionary says of its name
+unfoldable pub contents : List ℕ → ℕ → Avp → Definition → Outcome
+contents s at a d =
+    refuseIf (wrongFlags (flagsAt s at) a d) (refused 3009 at (a .vendor) (a .code))
+    (refuseIf (not (isKnown d) && a .m) (refused 5001 at (a .vendor) (a .code))
+    (refuseIf (not (fitsWidth d (a .length))) (refused 5014 at (a .vendor) (a .code))
+    (refuseIf (not (rightValue a (numberAt 4 s (a .start)))) (refused 5004 at (a .vendor) (a .code))
+    (refuseIf (isGroup d && leb deepest (a .depth)) (refused 7003 at (a .vendor) (a .code))
+    Pass))))
+
+-- a refusal is the answer, else the AVP
+abbrev pub settled : Outcome → Checked → Checked
+settled Pass c = c
+settled (Refused v) c = Fault v
+
+abbrev pub checkedAs : List ℕ → ℕ → Avp → Definition → Checked
+checkedAs s at a d = settled (contents s at a d) (cond (isGroup d) (Group a) (Plain a))
+
+-- checks 2 to 7 of the AVP at a place of a list that ends at `end` and stands at this depth
+unfoldable pub checked : List Entry → List ℕ → ℕ → ℕ → ℕ → Checked
+checked dict s at end depth =
+    settled (framing s at end) (checkedAs s at (avpAt s at depth) (find dict (vendorAt s at) (codeAt s at)))
+
+-- how a walk ended, with the AVPs that it met: the list is whole, or the walk stopped at a fault
+pub data Walked : Type 0 where
+  whole : List Avp → Walked
+  stopped : List Avp → Verdict → Walked
+
+abbrev pub avpsOf : Walked → List Avp
+avpsOf (whole xs) = xs
+avpsOf (stopped xs v) = xs
+
+-- a walk with AVPs before it
+abbrev pub after : List Avp → Walked → Walked
+after xs (whole ys) = whole (xs ++ ys)
+after xs (stopped ys v) = stopped (xs ++ ys) v
+
+-- go on, unless the walk stopped; what goes on is told how many AVPs there were
+abbrev pub andThen : Walked → (ℕ → Walked) → Walked
+andThen (whole xs) f = after xs (f (length xs))
+andThen (stopped xs v) f = stopped xs v
+
+-- what follows of an AVP that was checked; a group is read as a list, one deeper
+abbrev pub entered : (ℕ → ℕ → ℕ → ℕ → Walked) → ℕ → ℕ → Checked → Walked
+entered list depth count (Fault v) = stopped [] v
+entered list depth count (Plain a) = whole (a ∷ [])
+entered list depth count (Group a) = after (a ∷ []) (list (a .start) (a .start + a .length) (depth + 1) (count + 1))
+
+-- the AVP walk, given the list walk; check 1: 256 AVPs stand in the record already
+unfoldable pub walkAvp : (ℕ → ℕ → ℕ → ℕ → Walked) → List Entry → List ℕ → ℕ → ℕ → ℕ → ℕ → Walked
+walkAvp list dict s at end depth count =
+    cond (leb mostAvps count) (stopped [] (verdict 7002 at 0 0)) (entered list depth count (checked dict s at end depth))
+
+-- the list walk: the AVPs from `at` to `end` at a depth, `count` AVPs standing in the record. The first argument bounds
+-- the steps; as many as there are octets left are enough
+unfoldable pub walkList : ℕ → List Entry → List ℕ → ℕ → ℕ → ℕ → ℕ → Walked
+walkList zero dict s at end depth count = whole []
+walkList (suc n) dict s at end depth count =
+    cond (ltb at end)
+    (andThen (walkAvp (walkList n dict s) dict s at end depth count) (λ k. walkList n dict s (nextAt s at) end depth (count + k)))
+    (whole [])

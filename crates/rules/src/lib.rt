@@ -1,0 +1,106 @@
+// The terms of document 01 as types: what a command is read into, and what comes back. No function stands here; the
+// rules are in specs/, in the order of document 01, and the laws that the proofs above cite in proofs/.
+
+pub mod kinds;
+
+// What comes back for a command (01, What comes back): the number, 0 where it is accepted, the place, and the Vendor-Id
+// and code of the AVP at fault.
+pub struct Verdict {
+    pub number: u32,
+    pub place: u32,
+    pub vendor: u32,
+    pub code: u32,
+}
+
+// What some of the checks say of a command.
+pub enum Outcome {
+    Pass,
+    Refused(Verdict),
+}
+
+// An AVP of the record: depth (1 in the command's own list), name, the flags M and P, and its data.
+pub struct Avp {
+    pub depth: u32,
+    pub vendor: u32,
+    pub code: u32,
+    pub m: bool,
+    pub p: bool,
+    pub start: u32,
+    pub length: u32,
+}
+
+// The record of a command: command flags, identifiers, and room for 256 AVPs, of which `count` are used.
+pub struct Record {
+    pub r: bool,
+    pub p: bool,
+    pub e: bool,
+    pub t: bool,
+    pub hop_by_hop: u32,
+    pub end_to_end: u32,
+    pub count: u32,
+    pub avps: [Avp; 256],
+}
+
+// What reading a command gives. With a refusal the record is the empty one.
+pub struct Reading {
+    pub verdict: Verdict,
+    pub record: Record,
+}
+
+// The answer of a search: a position of the record, or none.
+pub enum Found {
+    At(usize),
+    Nothing,
+}
+
+// The lists that have rows: the two commands, and each grouped AVP that is read.
+pub enum Grammar {
+    Request,
+    Answer,
+    VendorSpecificApplicationId,
+    ExperimentalResult,
+    ProxyInfo,
+    SupportedFeatures,
+    TimeWindow,
+    TransferPolicy,
+}
+
+// The form of an AVP's data: of any length, of a fixed width, or a list of AVPs that is read.
+pub enum Form {
+    Any,
+    Fixed(u32),
+    Group(Grammar),
+}
+
+// What the dictionary says of a name: whether M must be set, and the form of the data.
+pub enum Definition {
+    Known { m: bool, form: Form },
+    Unknown,
+}
+
+// The mark of a row: ! first and once, 1 once, ? at most once, * any number.
+pub enum Mark {
+    First,
+    Once,
+    AtMostOnce,
+    AnyNumber,
+}
+
+// The row that admits a name in a list: its position among the rows and its mark, or none.
+pub enum Admission {
+    ByRow { row: usize, mark: Mark },
+    NoRow,
+}
+
+// A row that must be met, by its position among the rows; or there is no further one.
+pub enum Required {
+    Next { row: usize, vendor: u32, code: u32 },
+    NoMore,
+}
+
+// What the walk's checks say of an AVP: the fault, an AVP that holds no list, or a group whose data is read as a list.
+pub enum Checked {
+    Fault(Verdict),
+    Plain(Avp),
+    Group(Avp),
+}
