@@ -1,9 +1,10 @@
 -- Octets and numbers: what a list of octets stands for, and what stands at a place of it. Definitions only;
 -- their laws are in proofs/Octets.
-use Prim.Native.Nat.{ℕ, zero, suc, _+_, _*_, _/_, _%_, _^_}
+use mathlib.Core.Path.{_≡_}
+use Prim.Native.Nat.{ℕ, _+_, _*_, _/_, _%_, _^_, _<_}
 use mathlib.Core.List.{List, [], _∷_}
 use mathlib.Core.Bool.{Bool, cond}
-use lib.ListN.{length, take, drop, getD}
+use lib.ListN.{length, take, drop}
 use lib.Dec.{leb, eqb}
 
 -- the number that octets stand for, big-endian
@@ -14,6 +15,11 @@ number (x ∷ xs) = x * 256 ^ length xs + number xs
 -- the number in the w octets at a place of s; 0 where they do not all lie in s
 unfoldable pub numberAt : ℕ → List ℕ → ℕ → ℕ
 numberAt w s at = cond (leb (at + w) (length s)) (number (take w (drop at s))) 0
+
+-- what a reading of a number of w octets gives
+pub record IsNumber (w n r : ℕ) : Type 0 where
+  pub is : r ≡ n
+  pub below : r < 256 ^ w
 
 -- whether the flag of this value is set in an octet
 abbrev pub flag : ℕ → ℕ → Bool

@@ -1,0 +1,61 @@
+// Big-endian numbers of 2, 3, 4 and 8 octets at a place of a slice, each by one law over the width. A number that does not
+// lie whole in the slice reads as 0, so each function takes any place.
+ghost use Rattle.rules.specs.Octets.{numberAt, IsNumber};
+
+fn wide(x: u8) -> u32
+    ensures { λ r. ⌜ IsNumber 1 x r ⌝ }
+{
+    x as u32
+}
+
+pub fn number2(s: &[u8], at: usize) -> u32
+    ensures { λ r. ⌜ IsNumber 2 (numberAt 2 (now (s .entry)) at) r ⌝ }
+{
+    if s.len() < 2 {
+        return 0;
+    }
+    if s.len() - 2 < at {
+        return 0;
+    }
+    wide(s[at]) * 256 + wide(s[at + 1])
+}
+
+pub fn number3(s: &[u8], at: usize) -> u32
+    ensures { λ r. ⌜ IsNumber 3 (numberAt 3 (now (s .entry)) at) r ⌝ }
+{
+    if s.len() < 3 {
+        return 0;
+    }
+    if s.len() - 3 < at {
+        return 0;
+    }
+    wide(s[at]) * 65536 + wide(s[at + 1]) * 256 + wide(s[at + 2])
+}
+
+pub fn number4(s: &[u8], at: usize) -> u32
+    ensures { λ r. ⌜ IsNumber 4 (numberAt 4 (now (s .entry)) at) r ⌝ }
+{
+    if s.len() < 4 {
+        return 0;
+    }
+    if s.len() - 4 < at {
+        return 0;
+    }
+    wide(s[at]) * 16777216
+        + wide(s[at + 1]) * 65536
+        + wide(s[at + 2]) * 256
+        + wide(s[at + 3])
+}
+
+pub fn number8(s: &[u8], at: usize) -> u64
+    ensures { λ r. ⌜ IsNumber 8 (numberAt 8 (now (s .entry)) at) r ⌝ }
+{
+    if s.len() < 8 {
+        return 0;
+    }
+    if s.len() - 8 < at {
+        return 0;
+    }
+    let high = number4(s, at) as u64;
+    high * 4294967296 + number4(s, at + 4) as u64
+}

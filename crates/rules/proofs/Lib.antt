@@ -1,0 +1,2 @@
+-- The laws of the definitions, by topic. They name no code.
+pub mod Octets
