@@ -41,10 +41,7 @@ pub fn number4(s: &[u8], at: usize) -> u32
     if s.len() - 4 < at {
         return 0;
     }
-    wide(s[at]) * 16777216
-        + wide(s[at + 1]) * 65536
-        + wide(s[at + 2]) * 256
-        + wide(s[at + 3])
+    wide(s[at]) * 16777216 + wide(s[at + 1]) * 65536 + wide(s[at + 2]) * 256 + wide(s[at + 3])
 }
 
 pub fn number8(s: &[u8], at: usize) -> u64

@@ -1,0 +1,2 @@
+-- The laws of a log; Log has what other crates cite.
+pub mod Log

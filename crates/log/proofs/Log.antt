@@ -1,0 +1,107 @@
+-- Laws of a log: what a position holds, the AVPs one by one, and that AVPs that were put in are read back.
+use mathlib.Core.Path.{_≡_, refl, sym, ap, _∙_}
+use mathlib.Core.Logic.{_≢_}
+use mathlib.Core.Bool.{Bool, true, false}
+use mathlib.Core.List.{List, [], _∷_, _++_, append-assoc}
+use Prim.Native.Nat.{ℕ, zero, suc, _+_, _-_, _*_, _^_, _≤_, _<_, min}
+use native.Mathlib.Nat.{add-zero, add-suc}
+use native.Mathlib.Numerals.{add-one}
+use native.Mathlib.Omega.{arith}
+use borrow.Author.Tests.{lt-ltb, le-ltb}
+use lib.Dec.{eqb}
+use lib.ListN.{length, getD, set, take, drop, length-set, drop-of-length-le}
+use lib.Seq.{sets, sets-eq, getD-append-add, getD-set-other, getD-drop, length-take-le}
+use Rattle.rules.specs.declared.Avp.{Avp}
+use Rattle.rules.specs.Avp.{endOf}
+use Rattle.rules.specs.Exchange.{blank, avpIn}
+use Rattle.log.specs.Log.{bit, numbersAt, putAvp, avpFrom, avpOf, avpsFrom, avpsIn, written}
+
+module _ (log : List ℕ) (i : ℕ) where
+  pub avpOf-out : 256 ≤ i → avpOf log i ≡ blank
+  unfolding avpOf
+  avpOf-out h = rw (le-ltb i 256 h)
+
+  pub avpOf-in : i < 256 → avpOf log i ≡ avpFrom log (i * 7)
+  unfolding avpOf
+  avpOf-in h = rw (lt-ltb i 256 h)
+
+  module _ (a : Avp) where
+    pub putAvp-out : 256 ≤ i → putAvp log i a ≡ log
+    unfolding putAvp
+    putAvp-out h = rw (le-ltb i 256 h)
+
+    pub putAvp-long : i < 256 → 2 ^ 32 ≤ endOf a → putAvp log i a ≡ log
+    unfolding putAvp
+    putAvp-long h k = rw (lt-ltb i 256 h, le-ltb (endOf a) (2 ^ 32) k)
+
+    pub putAvp-in : i < 256 → endOf a < 2 ^ 32 → putAvp log i a ≡ numbersAt log (i * 7) a
+    unfolding putAvp
+    putAvp-in h k = rw (lt-ltb i 256 h, lt-ltb (endOf a) (2 ^ 32) k)
+
+-- ---- the AVPs one by one
+
+length-avpsFrom : (log : List ℕ) (i n : ℕ) → length (avpsFrom log i n) ≡ n
+unfolding avpsFrom
+length-avpsFrom log i zero = refl
+length-avpsFrom log i (suc n) = ap suc (length-avpsFrom log (i + 1) n)
+
+drop-avpsFrom : (log : List ℕ) (i n k : ℕ) → k < n → drop k (avpsFrom log i n) ≡ avpOf log (i + k) ∷ drop (suc k) (avpsFrom log i n)
+unfolding avpsFrom
+drop-avpsFrom log i zero k h = absurd (omega arith)
+drop-avpsFrom log i (suc n) zero h = rw add-zero
+drop-avpsFrom log i (suc n) (suc k) h =
+    let e = drop-avpsFrom log (i + 1) n k (omega arith) in
+    let s : i + 1 + k ≡ i + suc k = omega arith in
+    rw (← s) e
+
+pub length-avpsIn : (log : List ℕ) (count : ℕ) → count ≤ 256 → length (avpsIn log count) ≡ count
+unfolding avpsIn
+length-avpsIn log count h = length-avpsFrom log 0 (min count 256) ∙ omega arith
+
+-- the AVPs from a position on: the one there, and those after it
+pub avps-cons : (log : List ℕ) (count i : ℕ) → count ≤ 256 → i < count
+    → drop i (avpsIn log count) ≡ avpOf log i ∷ drop (i + 1) (avpsIn log count)
+unfolding avpsIn
+avps-cons log count i h k =
+    let e : 0 + i ≡ i = omega arith in
+    drop-avpsFrom log 0 (min count 256) i (omega arith) ∙ rw (add-one i, e)
+
+pub avps-end : (log : List ℕ) (count i : ℕ) → count ≤ 256 → count ≤ i → drop i (avpsIn log count) ≡ []
+avps-end log count i h k =
+    let short : length (avpsIn log count) ≤ i = rw (length-avpsIn log count h) k in
+    drop-of-length-le (avpsIn log count) short
+
+pub avps-at : (log : List ℕ) (count i : ℕ) → count ≤ 256 → i < count → avpIn (avpsIn log count) i ≡ avpOf log i
+avps-at log count i h k =
+    let e : 0 + i ≡ i = omega arith in
+    sym (ap (λ (n : ℕ). getD (avpsIn log count) n blank) (add-zero i))
+    ∙ sym (getD-drop i (avpsIn log count) 0 blank)
+    ∙ ap (λ (l : List Avp). getD l 0 blank) (avps-cons log count i h k)
+
+-- ---- what was put in is read back
+
+seven : Avp → List ℕ
+seven a = a .depth ∷ a .vendor ∷ a .code ∷ bit (a .m) ∷ bit (a .p) ∷ a .start ∷ endOf a ∷ []
+
+numbers-sets : (log : List ℕ) (at : ℕ) (a : Avp) → numbersAt log at a ≡ sets log at (seven a)
+unfolding seven
+numbers-sets log at a =
+    let e1 : at + 1 ≡ suc at = omega arith in
+    let e2 : at + 2 ≡ suc (suc at) = omega arith in
+    let e3 : at + 3 ≡ suc (suc (suc at)) = omega arith in
+    let e4 : at + 4 ≡ suc (suc (suc (suc at))) = omega arith in
+    let e5 : at + 5 ≡ suc (suc (suc (suc (suc at)))) = omega arith in
+    let e6 : at + 6 ≡ suc (suc (suc (suc (suc (suc at))))) = omega arith in
+    rw (e1, e2, e3, e4, e5, e6)
+
+length-numbers : (log : List ℕ) (at : ℕ) (a : Avp) → length (numbersAt log at a) ≡ length log
+length-numbers log at a = simp length-set
+
+module _ (log : List ℕ) (at : ℕ) (a : Avp) (room : at + 7 ≤ length log) where
+  number-same : (k : ℕ) → getD (numbersAt log at a) (at + k) 0 ≡ getD (seven a ++ drop (at + 7) log) k 0
+  unfolding seven
+  number-same k =
+      let e : length (take at log) ≡ at = length-take-le at log (omega arith) in
+      ap (λ (l : List ℕ). getD l (at + k) 0) (numbers-sets log at a ∙ sets-eq (seven a) log at room ∙ append-assoc (take at log) (seven a) (drop (at + 7) log))
+      ∙ ap (λ (n : ℕ). getD (take at log ++ (seven a ++ drop (at + 7) log)) (n + k) 0) (sym e)
+      ∙ getD-append-add (take at log) (seven a ++ drop (at + 7) log) k 0

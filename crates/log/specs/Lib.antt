@@ -1,0 +1,2 @@
+-- What a log holds.
+pub mod Log

@@ -1,0 +1,72 @@
+// The log that a walk is written into: seven numbers for each AVP in an array that the caller lends. The walk, the rows and
+// the exchange rules work on it, so that no record is copied from one AVP to the next.
+ghost use mathlib.Core.Path.{_≡_};
+ghost use Prim.Native.Nat.{_-_};
+ghost use Rattle.log.specs.Log.{bit, putAvp, avpOf};
+use rules::Avp;
+
+fn bit_of(flag: bool) -> u32
+    ensures { λ r. ⌜ r ≡ bit flag ⌝ }
+{
+    if flag {
+        return 1;
+    }
+    0
+}
+
+// The octets from a start to an end, none where the end comes first.
+fn length_of(start: u32, end: u32) -> u32
+    ensures { λ r. ⌜ r ≡ end - start ⌝ }
+{
+    if end < start {
+        return 0;
+    }
+    end - start
+}
+
+// Keeps an AVP at a position. A position from 256 on, or data whose end does not fit four octets, leaves the log as it was.
+pub fn put(log: &mut [u32; 1792], position: usize, a: Avp)
+    ensures { λ _. ⌜ now (log .exit) ≡ putAvp (now (log .entry)) position a ⌝ }
+{
+    if 256 <= position {
+        return;
+    }
+    if 4294967295 - a.length < a.start {
+        return;
+    }
+    let at = position * 7;
+    log[at] = a.depth;
+    log[at + 1] = a.vendor;
+    log[at + 2] = a.code;
+    log[at + 3] = bit_of(a.m);
+    log[at + 4] = bit_of(a.p);
+    log[at + 5] = a.start;
+    log[at + 6] = a.start + a.length;
+}
+
+// The AVP at a position, the blank one from 256 on.
+pub fn get(log: &[u32; 1792], position: usize) -> Avp
+    ensures { λ r. ⌜ r ≡ avpOf (now (log .entry)) position ⌝ }
+{
+    if 256 <= position {
+        return Avp {
+            depth: 0,
+            vendor: 0,
+            code: 0,
+            m: false,
+            p: false,
+            start: 0,
+            length: 0,
+        };
+    }
+    let at = position * 7;
+    Avp {
+        depth: log[at],
+        vendor: log[at + 1],
+        code: log[at + 2],
+        m: log[at + 3] == 1,
+        p: log[at + 4] == 1,
+        start: log[at + 5],
+        length: length_of(log[at + 5], log[at + 6]),
+    }
+}
