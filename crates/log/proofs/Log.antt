@@ -105,3 +105,82 @@ module _ (log : List ℕ) (at : ℕ) (a : Avp) (room : at + 7 ≤ length log) wh
       ap (λ (l : List ℕ). getD l (at + k) 0) (numbers-sets log at a ∙ sets-eq (seven a) log at room ∙ append-assoc (take at log) (seven a) (drop (at + 7) log))
       ∙ ap (λ (n : ℕ). getD (take at log ++ (seven a ++ drop (at + 7) log)) (n + k) 0) (sym e)
       ∙ getD-append-add (take at log) (seven a ++ drop (at + 7) log) k 0
+
+bit-back : (b : Bool) → eqb (bit b) 1 ≡ b
+bit-back true = refl
+bit-back false = refl
+
+numbers-back : (log : List ℕ) (at : ℕ) (a : Avp) → at + 7 ≤ length log → avpFrom (numbersAt log at a) at ≡ a
+unfolding seven
+numbers-back log at a room =
+    let same = number-same log at a room in
+    let depth : getD (numbersAt log at a) at 0 ≡ a .depth = ap (λ (n : ℕ). getD (numbersAt log at a) n 0) (sym (add-zero at)) ∙ same 0 in
+    let length : endOf a - a .start ≡ a .length = omega arith in
+    rw (depth, same 1, same 2, same 3, same 4, same 5, same 6, bit-back (a .m), bit-back (a .p), length)
+
+-- a position is not altered by what is put in behind it
+sets-before : (vs log : List ℕ) (at n : ℕ) → n < at → getD (sets log at vs) n 0 ≡ getD log n 0
+sets-before [] log at n h = refl
+sets-before (v ∷ vs) log at n h =
+    sets-before vs (set log at v) (suc at) n (omega arith) ∙ getD-set-other log at n v 0 (λ e. omega arith)
+
+numbers-before : (log : List ℕ) (at : ℕ) (a : Avp) (n : ℕ) → n + 7 ≤ at → avpFrom (numbersAt log at a) n ≡ avpFrom log n
+numbers-before log at a n h =
+    let other : (k : ℕ) → k < at → getD (numbersAt log at a) k 0 ≡ getD log k 0 =
+    λ k l. ap (λ (s : List ℕ). getD s k 0) (numbers-sets log at a) ∙ sets-before (seven a) log at k l in
+    rw (other n (omega arith), other (n + 1) (omega arith), other (n + 2) (omega arith), other (n + 3) (omega arith), other (n + 4) (omega arith), other (n + 5) (omega arith), other (n + 6) (omega arith))
+
+-- AVPs that a log can keep
+abbrev pub AllFit : List Avp → Type 0
+AllFit [] = Unit {0}
+AllFit (a ∷ xs) = (endOf a < 2 ^ 32) × AllFit xs
+
+module _ (log : List ℕ) (i : ℕ) (a : Avp) (few : i < 256) (fits : endOf a < 2 ^ 32) where
+  pub length-putAvp : length (putAvp log i a) ≡ length log
+  length-putAvp = ap length (putAvp-in log i a few fits) ∙ length-numbers log (i * 7) a
+
+  put-same : length log ≡ 1792 → avpOf (putAvp log i a) i ≡ a
+  put-same room =
+      avpOf-in (putAvp log i a) i few
+      ∙ ap (λ (l : List ℕ). avpFrom l (i * 7)) (putAvp-in log i a few fits)
+      ∙ numbers-back log (i * 7) a (omega arith)
+
+  put-before : (j : ℕ) → j < i → avpOf (putAvp log i a) j ≡ avpOf log j
+  put-before j h =
+      avpOf-in (putAvp log i a) j (omega arith)
+      ∙ ap (λ (l : List ℕ). avpFrom l (j * 7)) (putAvp-in log i a few fits)
+      ∙ numbers-before log (i * 7) a (j * 7) (omega arith)
+      ∙ sym (avpOf-in log j (omega arith))
+
+written-before : (xs : List Avp) (log : List ℕ) (i j : ℕ) → i + length xs ≤ 256 → AllFit xs → j < i → avpOf (written log i xs) j ≡ avpOf log j
+written-before [] log i j few fits h = refl
+written-before (a ∷ xs) log i j few fits h =
+    written-before xs (putAvp log i a) (i + 1) j (omega arith) (fits .1) (omega arith)
+    ∙ put-before log i a (omega arith) (fits .0) j h
+
+written-from : (xs : List Avp) (log : List ℕ) (i : ℕ) → length log ≡ 1792 → i + length xs ≤ 256 → AllFit xs
+    → avpsFrom (written log i xs) i (length xs) ≡ xs
+unfolding avpsFrom
+written-from [] log i room few fits = refl
+written-from (a ∷ xs) log i room few fits =
+    let one : avpOf (written (putAvp log i a) (i + 1) xs) i ≡ a =
+    written-before xs (putAvp log i a) (i + 1) i (omega arith) (fits .1) (omega arith)
+    ∙ put-same log i a (omega arith) (fits .0) room in
+    let rest : avpsFrom (written (putAvp log i a) (i + 1) xs) (i + 1) (length xs) ≡ xs =
+    written-from xs (putAvp log i a) (i + 1) (length-putAvp log i a (omega arith) (fits .0) ∙ room) (omega arith) (fits .1) in
+    cc
+
+-- AVPs that were put into a log are the AVPs of the log
+pub avps-written : (xs : List Avp) (log : List ℕ) → length log ≡ 1792 → length xs ≤ 256 → AllFit xs
+    → avpsIn (written log 0 xs) (length xs) ≡ xs
+unfolding avpsIn
+avps-written xs log room few fits =
+    let e : min (length xs) 256 ≡ length xs = omega arith in
+    rw e (written-from xs log 0 room (omega arith) fits)
+
+-- more AVPs behind those that were put in
+pub written-append : (log : List ℕ) (i : ℕ) (xs ys : List Avp) → written log i (xs ++ ys) ≡ written (written log i xs) (i + length xs) ys
+written-append log i [] ys = simp add-zero
+written-append log i (a ∷ xs) ys =
+    let h : i + 1 + length xs ≡ i + suc (length xs) = omega arith in
+    rw (← h) (written-append (putAvp log i a) (i + 1) xs ys)
