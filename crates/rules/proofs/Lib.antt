@@ -1,2 +1,4 @@
 -- The laws of the definitions, by topic. They name no code.
 pub mod Octets
+pub mod Fields
+pub mod Walk

@@ -10,7 +10,7 @@ use lib.ListN.{length, take, drop, getD, length-append, length-drop}
 use lib.Pow.{pow-add}
 use lib.Seq.{take-suc, getD-drop, take-add, drop-drop, length-take-le}
 use lib.Dec.{lit<}
-use Rattle.rules.specs.Octets.{number, numberAt, IsNumber}
+use Rattle.rules.specs.Octets.{number, numberAt, IsNumber, padded}
 
 -- where the octets lie in s
 pub numberAt-in : (w : ℕ) (s : List ℕ) (at : ℕ) → at + w ≤ length s → numberAt w s at ≡ number (take w (drop at s))
@@ -76,3 +76,12 @@ numberAt-joined v w s at h =
 -- a reading of octets that do not lie in s
 pub no-number : (w : ℕ) (s : List ℕ) (at : ℕ) → length s < at + w → IsNumber w (numberAt w s at) 0
 no-number w s at h = record { is = sym (numberAt-out w s at h); below = one-le-pow w 256 (lit< tt) }
+
+-- padding fills a length to a multiple of four, and no further
+pub padded-least : (n : ℕ) → n ≤ padded n
+unfolding padded
+padded-least n = omega arith
+
+pub padded-near : (n : ℕ) → padded n ≤ n + 3
+unfolding padded
+padded-near n = omega arith

@@ -2,7 +2,7 @@
 -- stops at the first fault. The dictionary is an argument throughout.
 use Prim.Native.Nat.{ℕ, zero, suc, _+_, _-_, _%_}
 use mathlib.Core.List.{List, [], _∷_, _++_}
-use mathlib.Core.Bool.{Bool, true, cond, not, _&&_, _||_}
+use mathlib.Core.Bool.{Bool, false, cond, not, _&&_, _||_}
 use lib.ListN.{length}
 use lib.Dec.{ltb, leb, eqb}
 use Rattle.rules.specs.declared.Avp.{Avp}
@@ -24,32 +24,49 @@ mostAvps = 256
 abbrev pub deepest : ℕ
 deepest = 4
 
+-- check 2, the length field: below the header's octets, or with padding beyond what is left
+unfoldable pub framedBy : ℕ → ℕ → ℕ → ℕ → ℕ → ℕ → Outcome
+framedBy at left header size vendor code =
+    refuseIf (ltb size header) (refused 5014 at vendor code)
+    (refuseIf (ltb left (padded size)) (refused 5014 at vendor code) Pass)
+
 -- check 2: the octets that are left in the list hold the AVP. The code is given if 8 are left, the vendor if V is set
 -- and 12 are
 unfoldable pub framing : List ℕ → ℕ → ℕ → Outcome
 framing s at end =
     refuseIf (ltb (end - at) 8) (refused 5014 at 0 0)
     (refuseIf (flagV (flagsAt s at) && ltb (end - at) 12) (refused 5014 at 0 (codeAt s at))
-    (refuseIf (ltb (lengthAt s at) (headerOf (flagV (flagsAt s at)))) (refused 5014 at (vendorAt s at) (codeAt s at))
-    (refuseIf (ltb (end - at) (padded (lengthAt s at))) (refused 5014 at (vendorAt s at) (codeAt s at))
-    Pass)))
+    (framedBy at (end - at) (headerOf (flagV (flagsAt s at))) (lengthAt s at) (vendorAt s at) (codeAt s at)))
 
 -- check 3: a reserved flag set, V set with vendor 0, or M clear where the dictionary has M
-abbrev pub wrongFlags : ℕ → Avp → Definition → Bool
+unfoldable pub wrongFlags : ℕ → Avp → Definition → Bool
 wrongFlags flags a d = not (eqb (flags % 32) 0) || flagV flags && eqb (a .vendor) 0 || requiresM d && not (a .m)
 
--- check 6: 277 is 1, and 4203 is 0 or 1
-abbrev pub rightValue : Avp → ℕ → Bool
-rightValue a n = cond (named a 0 277) (eqb n 1) (cond (named a 10415 4203) (eqb n 0 || eqb n 1) true)
+-- check 4: not in the dictionary and M set
+unfoldable pub unsupported : Avp → Definition → Bool
+unsupported a d = not (isKnown d) && a .m
+
+-- check 5: a fixed width not met
+unfoldable pub wrongWidth : Avp → Definition → Bool
+wrongWidth a d = not (fitsWidth d (a .length))
+
+-- check 6: 277 not 1, or 4203 neither 0 nor 1
+unfoldable pub wrongValue : Avp → ℕ → Bool
+wrongValue a n =
+    cond (named a 0 277) (not (eqb n 1)) (cond (named a 10415 4203) (not (eqb n 0) && not (eqb n 1)) false)
+
+-- check 7: a group at depth 4
+unfoldable pub tooDeep : Avp → Definition → Bool
+tooDeep a d = isGroup d && leb deepest (a .depth)
 
 -- checks 3 to 7 of the AVP at a place, with what the dictionary says of its name
 unfoldable pub contents : List ℕ → ℕ → Avp → Definition → Outcome
 contents s at a d =
     refuseIf (wrongFlags (flagsAt s at) a d) (refused 3009 at (a .vendor) (a .code))
-    (refuseIf (not (isKnown d) && a .m) (refused 5001 at (a .vendor) (a .code))
-    (refuseIf (not (fitsWidth d (a .length))) (refused 5014 at (a .vendor) (a .code))
-    (refuseIf (not (rightValue a (numberAt 4 s (a .start)))) (refused 5004 at (a .vendor) (a .code))
-    (refuseIf (isGroup d && leb deepest (a .depth)) (refused 7003 at (a .vendor) (a .code))
+    (refuseIf (unsupported a d) (refused 5001 at (a .vendor) (a .code))
+    (refuseIf (wrongWidth a d) (refused 5014 at (a .vendor) (a .code))
+    (refuseIf (wrongValue a (numberAt 4 s (a .start))) (refused 5004 at (a .vendor) (a .code))
+    (refuseIf (tooDeep a d) (refused 7003 at (a .vendor) (a .code))
     Pass))))
 
 -- a refusal is the answer, else the AVP

@@ -1,0 +1,40 @@
+-- Laws of an AVP's fields: the AVP at a place, with V and without.
+use mathlib.Core.Path.{_≡_, refl, sym, ap, _∙_}
+use mathlib.Core.Bool.{Bool, true, false}
+use mathlib.Core.List.{List}
+use Prim.Native.Nat.{ℕ, _+_, _-_, _≤_}
+use Rattle.rules.specs.declared.Avp.{Avp}
+use Rattle.rules.specs.Octets.{numberAt}
+use Rattle.rules.specs.Avp.{codeAt, flagsAt, flagV, flagM, flagP, lengthAt, headerOf, avpAt}
+
+-- the header's octets, where they are known to fit
+pub header-plain : (v : Bool) (n : ℕ) → v ≡ false → headerOf v ≤ n → 8 ≤ n
+header-plain v n e h = rw e at h
+
+pub header-vendor : (v : Bool) (n : ℕ) → v ≡ true → headerOf v ≤ n → 12 ≤ n
+header-vendor v n e h = rw e at h
+
+module _ (s : List ℕ) (at depth : ℕ) where
+  pub avpAt-plain : flagV (flagsAt s at) ≡ false → avpAt s at depth ≡ record {
+    depth = depth;
+    vendor = 0;
+    code = codeAt s at;
+    m = flagM (flagsAt s at);
+    p = flagP (flagsAt s at);
+    start = at + 8;
+    length = lengthAt s at - 8;
+  }
+  unfolding avpAt
+  avpAt-plain h = rw h
+
+  pub avpAt-vendor : flagV (flagsAt s at) ≡ true → avpAt s at depth ≡ record {
+    depth = depth;
+    vendor = numberAt 4 s (at + 8);
+    code = codeAt s at;
+    m = flagM (flagsAt s at);
+    p = flagP (flagsAt s at);
+    start = at + 12;
+    length = lengthAt s at - 12;
+  }
+  unfolding avpAt
+  avpAt-vendor h = rw h

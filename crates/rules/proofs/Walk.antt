@@ -1,0 +1,109 @@
+-- Laws of the walk's definitions, case by case: the checks of an AVP, one AVP, and the list. They hold for every dictionary.
+use mathlib.Core.Path.{_≡_, refl, sym, ap, _∙_}
+use mathlib.Core.Bool.{Bool, true, false, not}
+use mathlib.Core.List.{List, [], _∷_, _++_, append-assoc}
+use Prim.Native.Nat.{ℕ, zero, suc, _+_, _-_, _%_, _≤_, _<_}
+use native.Mathlib.Nat.{add-assoc}
+use native.Mathlib.Omega.{arith}
+use borrow.Author.Tests.{lt-ltb, le-ltb, le-leb, lt-leb, eq-eqb, ne-eqb, ltb-false}
+use lib.Dec.{ltb, leb, eqb}
+use lib.ListN.{length, length-append}
+use Rattle.rules.specs.declared.Avp.{Avp}
+use Rattle.rules.specs.declared.Verdict.{Verdict}
+use Rattle.rules.specs.declared.Outcome.{Outcome}
+use Rattle.rules.specs.declared.Outcome.the-variants.{Pass, Refused}
+use Rattle.rules.specs.declared.Checked.{Checked}
+use Rattle.rules.specs.declared.Checked.the-variants.{Fault, Plain, Group}
+use Rattle.rules.specs.declared.Definition.{Definition}
+use Rattle.rules.specs.Octets.{numberAt, padded}
+use Rattle.rules.specs.Verdict.{verdict, refused}
+use Rattle.rules.specs.Avp.{codeAt, flagsAt, flagV, lengthAt, headerOf, vendorAt, nextAt, avpAt}
+use Rattle.rules.specs.Dictionary.{Entry, find, isGroup}
+use Rattle.rules.specs.Walk.{framedBy, framing, wrongFlags, unsupported, wrongWidth, wrongValue, tooDeep, contents, checkedAs, checked, Walked, whole, stopped, avpsOf, after, andThen, entered, walkAvp, walkList}
+
+-- a test holds or it does not
+pub by-cases : {C : Type 0} (b : Bool) → (b ≡ true → C) → (b ≡ false → C) → C
+by-cases true f g = f refl
+by-cases false f g = g refl
+
+-- a refusal is no pass
+pub never : {C : Type 0} {v : Verdict} → Refused v ≡ Pass → C
+never e = let z : _≡_ {A = ℕ} 0 1 = cc in absurd (omega arith)
+
+-- ---- check 2
+
+module _ (at left header size vendor code : ℕ) where
+  pub framedBy-short : size < header → framedBy at left header size vendor code ≡ refused 5014 at vendor code
+  unfolding framedBy
+  framedBy-short h = rw (lt-ltb size header h)
+
+  pub framedBy-long : header ≤ size → left < padded size → framedBy at left header size vendor code ≡ refused 5014 at vendor code
+  unfolding framedBy
+  framedBy-long h k = rw (le-ltb size header h, lt-ltb left (padded size) k)
+
+  pub framedBy-pass : header ≤ size → padded size ≤ left → framedBy at left header size vendor code ≡ Pass
+  unfolding framedBy
+  framedBy-pass h k = rw (le-ltb size header h, le-ltb left (padded size) k)
+
+  -- what passes has room for its header, and lies with its padding in what is left
+  pub framedBy-fits : framedBy at left header size vendor code ≡ Pass → (header ≤ size) × (padded size ≤ left)
+  unfolding framedBy
+  framedBy-fits e =
+      by-cases (ltb size header)
+      (λ h. never (rw h at e))
+      (λ h. by-cases (ltb left (padded size))
+      (λ k. never (rw (h, k) at e))
+      (λ k. (ltb-false _ _ h, ltb-false _ _ k)))
+
+module _ (s : List ℕ) (at end : ℕ) where
+  pub framing-left : end - at < 8 → framing s at end ≡ refused 5014 at 0 0
+  unfolding framing
+  framing-left h = rw (lt-ltb (end - at) 8 h)
+
+  pub framing-plain : 8 ≤ end - at → flagV (flagsAt s at) ≡ false
+      → framing s at end ≡ framedBy at (end - at) 8 (lengthAt s at) 0 (codeAt s at)
+  unfolding framing
+  framing-plain h v = rw (le-ltb (end - at) 8 h, v)
+
+  pub framing-vendor-left : 8 ≤ end - at → flagV (flagsAt s at) ≡ true → end - at < 12
+      → framing s at end ≡ refused 5014 at 0 (codeAt s at)
+  unfolding framing
+  framing-vendor-left h v k = rw (le-ltb (end - at) 8 h, v, lt-ltb (end - at) 12 k)
+
+  pub framing-vendor : 12 ≤ end - at → flagV (flagsAt s at) ≡ true
+      → framing s at end ≡ framedBy at (end - at) 12 (lengthAt s at) (numberAt 4 s (at + 8)) (codeAt s at)
+  unfolding framing
+  framing-vendor h v =
+      let k : 8 ≤ end - at = omega arith in
+      rw (le-ltb (end - at) 8 k, v, le-ltb (end - at) 12 h)
+
+-- ---- checks 3 to 7
+
+module _ (s : List ℕ) (at : ℕ) (a : Avp) (d : Definition) where
+  pub contents-3009 : wrongFlags (flagsAt s at) a d ≡ true → contents s at a d ≡ refused 3009 at (a .vendor) (a .code)
+  unfolding contents
+  contents-3009 h = rw h
+
+  module _ (flags : wrongFlags (flagsAt s at) a d ≡ false) where
+    pub contents-5001 : unsupported a d ≡ true → contents s at a d ≡ refused 5001 at (a .vendor) (a .code)
+    unfolding contents
+    contents-5001 h = rw (flags, h)
+
+    module _ (known : unsupported a d ≡ false) where
+      pub contents-5014 : wrongWidth a d ≡ true → contents s at a d ≡ refused 5014 at (a .vendor) (a .code)
+      unfolding contents
+      contents-5014 h = rw (flags, known, h)
+
+      module _ (width : wrongWidth a d ≡ false) where
+        pub contents-5004 : wrongValue a (numberAt 4 s (a .start)) ≡ true → contents s at a d ≡ refused 5004 at (a .vendor) (a .code)
+        unfolding contents
+        contents-5004 h = rw (flags, known, width, h)
+
+        module _ (value : wrongValue a (numberAt 4 s (a .start)) ≡ false) where
+          pub contents-7003 : tooDeep a d ≡ true → contents s at a d ≡ refused 7003 at (a .vendor) (a .code)
+          unfolding contents
+          contents-7003 h = rw (flags, known, width, value, h)
+
+          pub contents-pass : tooDeep a d ≡ false → contents s at a d ≡ Pass
+          unfolding contents
+          contents-pass h = rw (flags, known, width, value, h)

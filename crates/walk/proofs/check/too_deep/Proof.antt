@@ -1,0 +1,22 @@
+-- `walk::check::too_deep` meets its contract.
+use borrow.Author.Needs.{needs}
+use mathlib.Core.Path.{sym, _∙_}
+use Rattle.rules.specs.Walk.{tooDeep}
+use Rattle.walk.proofs.check.too_deep.Statement.{statement}
+use Rattle.walk.proofs.check.too_deep.Tie as tie
+
+is-group-requires : tie.Need-is-group-requires
+is-group-requires c κs = search needs
+
+returns : tie.Need-returns
+unfolding tooDeep
+returns c =
+    let g = c .before .before in
+    rw (sym (g .is-group .ensures) ∙ c .before .if1 .taken)
+
+returns-2 : tie.Need-returns-2
+unfolding tooDeep
+returns-2 c = rw (sym (c .before .is-group .ensures) ∙ c .if1 .left)
+
+pub too-deep-spec : {M : Type 1} → statement M
+too-deep-spec = tie.close (tie.spec is-group-requires returns returns-2)

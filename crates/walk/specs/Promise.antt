@@ -1,0 +1,64 @@
+-- The promises of the walk, in terms of document 01's definitions. A private promise holds at every number of steps that is
+-- enough, so that no law on the number of steps is needed; the public one fixes it.
+use mathlib.Core.Path.{_≡_}
+use Prim.Native.Nat.{ℕ, suc, _+_, _-_, _≤_, _<_}
+use mathlib.Core.List.{List, []}
+use mathlib.Core.Bool.{Bool, cond}
+use lib.ListN.{length}
+use lib.Dec.{ltb}
+use Rattle.rules.specs.declared.Avp.{Avp}
+use Rattle.rules.specs.declared.Verdict.{Verdict}
+use Rattle.rules.specs.Octets.{padded}
+use Rattle.rules.specs.Verdict.{verdict}
+use Rattle.rules.specs.Header.{longestCommand}
+use Rattle.rules.specs.Avp.{flagsAt, flagV, lengthAt, headerOf, nextAt}
+use Rattle.rules.specs.Dictionary.{dictionary}
+use Rattle.rules.specs.Walk.{Walked, whole, stopped, avpsOf, walkAvp, walkList}
+use Rattle.rules.specs.Command.{walkOf}
+use Rattle.log.specs.Log.{avpsIn, written}
+use Rattle.walk.specs.declared.Walk.{Walk}
+use Rattle.walk.specs.declared.Walk.the-variants.{Whole, Stopped}
+
+-- a place of a list that lies in a command of admitted length
+pub record InList (s : List ℕ) (at end : ℕ) : Type 0 where
+  pub order : at ≤ end
+  pub inside : end ≤ length s
+  pub short : length s ≤ longestCommand
+
+-- an AVP that passed check 2
+pub record Framed (s : List ℕ) (at end : ℕ) : Type 0 where
+  pub eight : at + 8 ≤ end
+  pub header : headerOf (flagV (flagsAt s at)) ≤ lengthAt s at
+  pub fits : at + padded (lengthAt s at) ≤ end
+
+-- where a walk stands: in a list at a depth, with this many AVPs before
+pub record Ready (s : List ℕ) (at end depth count : ℕ) : Type 0 where
+  pub place : InList s at end
+  pub level : depth ≤ 4
+  pub few : count ≤ 256
+
+-- what a walk hands back
+abbrev pub answerOf : ℕ → Walked → Walk
+answerOf count (whole xs) = Whole (count + length xs)
+answerOf count (stopped xs v) = Stopped v
+
+-- the AVP walk: the answer, the log, and where the next AVP stands
+pub record AvpWalked (s : List ℕ) (at end depth count : ℕ) (before : List ℕ) (r : Walk) (after : List ℕ) : Type 0 where
+  pub answer : (n : ℕ) → end - at ≤ suc n → r ≡ answerOf count (walkAvp (walkList n dictionary s) dictionary s at end depth count)
+  pub logged : (n : ℕ) → end - at ≤ suc n → after ≡ written before count (avpsOf (walkAvp (walkList n dictionary s) dictionary s at end depth count))
+  pub within : (c : ℕ) → r ≡ Whole c → (at < nextAt s at) × (nextAt s at ≤ end) × (c ≤ 256)
+
+-- the list walk
+pub record ListWalked (s : List ℕ) (at end depth count : ℕ) (before : List ℕ) (r : Walk) (after : List ℕ) : Type 0 where
+  pub answer : (n : ℕ) → end - at ≤ n → r ≡ answerOf count (walkList n dictionary s at end depth count)
+  pub logged : (n : ℕ) → end - at ≤ n → after ≡ written before count (avpsOf (walkList n dictionary s at end depth count))
+  pub within : (c : ℕ) → r ≡ Whole c → c ≤ 256
+
+-- the walk of a command; one longer than 16,384 octets is 7001 at 1, as by its header
+unfoldable pub commandWalk : List ℕ → Walked
+commandWalk s = cond (ltb longestCommand (length s)) (stopped [] (verdict 7001 1 0 0)) (walkOf s)
+
+pub record CommandWalked (s before : List ℕ) (r : Walk) (after : List ℕ) : Type 0 where
+  pub answer : r ≡ answerOf 0 (commandWalk s)
+  pub logged : after ≡ written before 0 (avpsOf (commandWalk s))
+  pub read : (c : ℕ) → r ≡ Whole c → avpsIn after c ≡ avpsOf (commandWalk s)

@@ -1,0 +1,165 @@
+// 01, Walk, checks 3 to 7: flags, dictionary, width, value and depth of an AVP whose frame is right.
+ghost use mathlib.Core.Path.{_≡_};
+ghost use mathlib.Core.Bool.{_&&_};
+ghost use Prim.Native.Nat.{_+_, _≤_, _<_};
+ghost use lib.Dec.{eqb};
+ghost use lib.ListN.{length};
+ghost use Rattle.rules.specs.Octets.{numberAt};
+ghost use Rattle.rules.specs.Verdict.{refused};
+ghost use Rattle.rules.specs.Avp.{flagV, named};
+ghost use Rattle.rules.specs.Dictionary.{dictionary, requiresM, isGroup};
+ghost use Rattle.rules.specs.Walk.{wrongFlags, unsupported, wrongWidth, wrongValue, tooDeep, contents, checked};
+ghost use Rattle.walk.specs.Promise.{InList};
+use rules::Avp;
+use rules::Definition;
+use rules::Form;
+use rules::Outcome;
+use rules::Verdict;
+use rules::kinds::AuthSessionState;
+use rules::kinds::TransferRequestType;
+
+fn requires_m(d: Definition) -> bool
+    ensures { λ r. ⌜ r ≡ requiresM d ⌝ }
+{
+    match d {
+        Definition::Known { m, form: _ } => m,
+        Definition::Unknown => false,
+    }
+}
+
+fn is_group(d: Definition) -> bool
+    ensures { λ r. ⌜ r ≡ isGroup d ⌝ }
+{
+    match d {
+        Definition::Known { m: _, form } => match form {
+            Form::Any => false,
+            Form::Fixed(_) => false,
+            Form::Group(_) => true,
+        },
+        Definition::Unknown => false,
+    }
+}
+
+fn is_named(a: Avp, vendor: u32, code: u32) -> bool
+    ensures { λ r. ⌜ r ≡ named a vendor code ⌝ }
+{
+    if a.vendor != vendor {
+        return false;
+    }
+    a.code == code
+}
+
+// V set with vendor 0.
+fn has_vendor_zero(flags: u8, vendor: u32) -> bool
+    ensures { λ r. ⌜ r ≡ (flagV flags && eqb vendor 0) ⌝ }
+{
+    let v = flags / 128 % 2;
+    if v != 1 {
+        return false;
+    }
+    vendor == 0
+}
+
+// Check 3.
+fn wrong_flags(flags: u8, a: Avp, d: Definition) -> bool
+    ensures { λ r. ⌜ r ≡ wrongFlags flags a d ⌝ }
+{
+    let reserved = flags % 32;
+    if reserved != 0 {
+        return true;
+    }
+    if has_vendor_zero(flags, a.vendor) {
+        return true;
+    }
+    if requires_m(d) {
+        return !a.m;
+    }
+    false
+}
+
+// Check 4.
+fn unsupported_name(a: Avp, d: Definition) -> bool
+    ensures { λ r. ⌜ r ≡ unsupported a d ⌝ }
+{
+    match d {
+        Definition::Known { m: _, form: _ } => false,
+        Definition::Unknown => a.m,
+    }
+}
+
+// Check 5.
+fn wrong_width(a: Avp, d: Definition) -> bool
+    ensures { λ r. ⌜ r ≡ wrongWidth a d ⌝ }
+{
+    match d {
+        Definition::Known { m: _, form } => match form {
+            Form::Any => false,
+            Form::Fixed(width) => a.length != width,
+            Form::Group(_) => false,
+        },
+        Definition::Unknown => false,
+    }
+}
+
+// Check 6, by the value of the AVP's first four octets.
+fn wrong_value(s: &[u8], a: Avp) -> bool
+    ensures { λ r. ⌜ r ≡ wrongValue a (numberAt 4 (now (s .entry)) (a .start)) ⌝ }
+{
+    let start = a.start as usize;
+    if is_named(a, AuthSessionState::VENDOR, AuthSessionState::CODE) {
+        return octets::number4(s, start) != 1;
+    }
+    if is_named(a, TransferRequestType::VENDOR, TransferRequestType::CODE) {
+        let n = octets::number4(s, start);
+        if n == 0 {
+            return false;
+        }
+        return n != 1;
+    }
+    false
+}
+
+// Check 7.
+fn too_deep(a: Avp, d: Definition) -> bool
+    ensures { λ r. ⌜ r ≡ tooDeep a d ⌝ }
+{
+    if is_group(d) {
+        return 4 <= a.depth;
+    }
+    false
+}
+
+fn refusal(number: u32, at: usize, a: Avp) -> Outcome
+    requires { ⌜ at < 16777216 ⌝ }
+    ensures { λ r. ⌜ r ≡ refused number at (a .vendor) (a .code) ⌝ }
+{
+    Outcome::Refused(Verdict {
+        number,
+        place: at as u32,
+        vendor: a.vendor,
+        code: a.code,
+    })
+}
+
+// Checks 3 to 7 of the AVP at a place, with what the dictionary says of its name.
+fn content(s: &[u8], at: usize, a: Avp, d: Definition) -> Outcome
+    requires { ⌜ (at + 8 ≤ length (now s)) × (at < 16777216) ⌝ }
+    ensures { λ r. ⌜ r ≡ contents (now (s .entry)) at a d ⌝ }
+{
+    if wrong_flags(s[at + 4], a, d) {
+        return refusal(3009, at, a);
+    }
+    if unsupported_name(a, d) {
+        return refusal(5001, at, a);
+    }
+    if wrong_width(a, d) {
+        return refusal(5014, at, a);
+    }
+    if wrong_value(s, a) {
+        return refusal(5004, at, a);
+    }
+    if too_deep(a, d) {
+        return refusal(7003, at, a);
+    }
+    Outcome::Pass
+}
