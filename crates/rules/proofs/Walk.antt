@@ -17,9 +17,9 @@ use Rattle.rules.specs.declared.Checked.the-variants.{Fault, Plain, Grou
 use Rattle.rules.specs.declared.Definition.{Definition}
 use Rattle.rules.specs.Octets.{numberAt, padded}
 use Rattle.rules.specs.Verdict.{verdict, refused}
-use Rattle.rules.specs.Avp.{codeAt, flagsAt, flagV, lengthAt, headerOf, vendorAt, nextAt, avpAt}
-use Rattle.rules.specs.Dictionary.{Entry, find, isGroup}
-use Rattle.rules.specs.Walk.{framedBy, framing, wrongFlags, unsupported, wrongWidth, wrongValue, tooDeep, contents, checkedAs, checked, Walked, whole, stopped, avpsOf, after, andThen, entered, walkAvp, walkList}
+use Rattle.rules.specs.Avp.{codeAt, flagsAt, flagV, lengthAt, headerOf, nextAt, avpAt}
+use Rattle.rules.specs.Dictionary.{Entry, defined, isGroup}
+use Rattle.rules.specs.Walk.{framedBy, framing, wrongFlags, unsupported, wrongWidth, wrongValue, tooDeep, contents, checkedAvp, checked, Walked, whole, stopped, avpsOf, after, andThen, entered, walkAvp, walkList}
 
 -- a test holds or it does not
 pub by-cases : {C : Type 0} (b : Bool) → (b ≡ true → C) → (b ≡ false → C) → C
@@ -107,3 +107,24 @@ module _ (s : List ℕ) (at : ℕ) (a : Avp) (d : Definition) where
           pub contents-pass : tooDeep a d ≡ false → contents s at a d ≡ Pass
           unfolding contents
           contents-pass h = rw (flags, known, width, value, h)
+
+-- ---- checks 2 to 7
+
+module _ (dict : List Entry) (s : List ℕ) (at end depth : ℕ) where
+  pub checked-frame : {v : Verdict} → framing s at end ≡ Refused v → checked dict s at end depth ≡ Fault v
+  unfolding checked
+  checked-frame e = rw e
+
+  module _ (pass : framing s at end ≡ Pass) (a : Avp) (is : a ≡ avpAt s at depth) (d : Definition) (says : d ≡ defined dict a) where
+    checked-on : checked dict s at end depth ≡ checkedAvp dict s at a
+    unfolding checked
+    checked-on = rw (pass, is)
+
+    pub checked-content : {v : Verdict} → contents s at a d ≡ Refused v → checked dict s at end depth ≡ Fault v
+    checked-content e = checked-on ∙ rw (← says, e)
+
+    pub checked-group : contents s at a d ≡ Pass → isGroup d ≡ true → checked dict s at end depth ≡ Group a
+    checked-group e g = checked-on ∙ rw (← says, e, g)
+
+    pub checked-plain : contents s at a d ≡ Pass → isGroup d ≡ false → checked dict s at end depth ≡ Plain a
+    checked-plain e g = checked-on ∙ rw (← says, e, g)

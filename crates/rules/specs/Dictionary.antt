@@ -3,6 +3,7 @@ use Prim.Native.Nat.{ℕ}
 use mathlib.Core.List.{List, [], _∷_, _++_, map}
 use mathlib.Core.Bool.{Bool, true, false, cond, _&&_}
 use lib.Dec.{eqb}
+use Rattle.rules.specs.declared.Avp.{Avp}
 use Rattle.rules.specs.declared.Form.{Form}
 use Rattle.rules.specs.declared.Form.the-variants.{Any, Fixed, Group}
 use Rattle.rules.specs.declared.Definition.{Definition}
@@ -51,6 +52,10 @@ unfoldable pub find : List Entry → ℕ → ℕ → Definition
 find [] vendor code = Unknown
 find (e ∷ es) vendor code =
     cond (eqb vendor (e .vendor) && eqb code (e .code)) (Known (e .m) (e .form)) (find es vendor code)
+
+-- what it says of an AVP
+abbrev pub defined : List Entry → Avp → Definition
+defined dict a = find dict (a .vendor) (a .code)
 
 -- M must be set
 abbrev pub requiresM : Definition → Bool

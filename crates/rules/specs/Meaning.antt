@@ -10,7 +10,7 @@ use Rattle.rules.specs.declared.Record.{Record}
 use Rattle.rules.specs.Octets.{padded}
 use Rattle.rules.specs.Header.{commandFlags}
 use Rattle.rules.specs.Avp.{placeOf, endOf}
-use Rattle.rules.specs.Dictionary.{dictionary, find, isGroup}
+use Rattle.rules.specs.Dictionary.{dictionary, defined, isGroup}
 use Rattle.rules.specs.Walk.{avpsOf}
 use Rattle.rules.specs.Command.{walkOf}
 use Rattle.rules.specs.Record.{recordOf, recorded}
@@ -36,7 +36,7 @@ pub record Meaning : Type 0 where
   pub cells : List Cell
 
 abbrev pub isReadGroup : Avp → Bool
-isReadGroup a = isGroup (find dictionary (a .vendor) (a .code))
+isReadGroup a = isGroup (defined dictionary a)
 
 abbrev pub cellOf : List ℕ → Avp → Cell
 cellOf s a = record {

@@ -20,7 +20,7 @@ use Rattle.rules.specs.declared.Grammar.{Grammar}
 use Rattle.rules.specs.Verdict.{refused, refuseIf, orElse}
 use Rattle.rules.specs.Avp.{placeOf, endOf}
 use Rattle.rules.specs.Rows.{Row, rowsOf, admitsOthers}
-use Rattle.rules.specs.Dictionary.{Entry, find}
+use Rattle.rules.specs.Dictionary.{Entry, defined}
 
 -- the row that names an AVP, counted from i
 unfoldable pub admissionFrom : ℕ → List Row → ℕ → ℕ → Admission
@@ -98,7 +98,7 @@ groupOutcome Unknown a xs = Pass
 
 unfoldable pub groupsOutcome : List Entry → List Avp → Outcome
 groupsOutcome dict [] = Pass
-groupsOutcome dict (a ∷ xs) = orElse (groupOutcome (find dict (a .vendor) (a .code)) a xs) (groupsOutcome dict xs)
+groupsOutcome dict (a ∷ xs) = orElse (groupOutcome (defined dict a) a xs) (groupsOutcome dict xs)
 
 -- the command's list, which ends at `end`, then each group in walk order
 unfoldable pub rowsOutcome : List Entry → Grammar → ℕ → List Avp → Outcome

@@ -15,7 +15,7 @@ use Rattle.rules.specs.declared.Definition.{Definition}
 use Rattle.rules.specs.Octets.{numberAt, padded}
 use Rattle.rules.specs.Verdict.{verdict, refused, refuseIf}
 use Rattle.rules.specs.Avp.{codeAt, flagsAt, flagV, lengthAt, headerOf, vendorAt, nextAt, avpAt, named}
-use Rattle.rules.specs.Dictionary.{Entry, find, requiresM, isKnown, isGroup, fitsWidth}
+use Rattle.rules.specs.Dictionary.{Entry, defined, requiresM, isKnown, isGroup, fitsWidth}
 
 -- the record has room for 256 AVPs; a group stands no deeper than 3, its members no deeper than 4
 abbrev pub mostAvps : ℕ
@@ -74,13 +74,12 @@ abbrev pub settled : Outcome → Checked → Checked
 settled Pass c = c
 settled (Refused v) c = Fault v
 
-abbrev pub checkedAs : List ℕ → ℕ → Avp → Definition → Checked
-checkedAs s at a d = settled (contents s at a d) (cond (isGroup d) (Group a) (Plain a))
+abbrev pub checkedAvp : List Entry → List ℕ → ℕ → Avp → Checked
+checkedAvp dict s at a = settled (contents s at a (defined dict a)) (cond (isGroup (defined dict a)) (Group a) (Plain a))
 
 -- checks 2 to 7 of the AVP at a place of a list that ends at `end` and stands at this depth
 unfoldable pub checked : List Entry → List ℕ → ℕ → ℕ → ℕ → Checked
-checked dict s at end depth =
-    settled (framing s at end) (checkedAs s at (avpAt s at depth) (find dict (vendorAt s at) (codeAt s at)))
+checked dict s at end depth = settled (framing s at end) (checkedAvp dict s at (avpAt s at depth))
 
 -- how a walk ended, with the AVPs that it met: the list is whole, or the walk stopped at a fault
 pub data Walked : Type 0 where

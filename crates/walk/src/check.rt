@@ -10,13 +10,9 @@ ghost use Rattle.rules.specs.Avp.{flagV, named};
 ghost use Rattle.rules.specs.Dictionary.{dictionary, requiresM, isGroup};
 ghost use Rattle.rules.specs.Walk.{wrongFlags, unsupported, wrongWidth, wrongValue, tooDeep, contents, checked};
 ghost use Rattle.walk.specs.Promise.{InList};
-use rules::Avp;
-use rules::Definition;
-use rules::Form;
-use rules::Outcome;
-use rules::Verdict;
-use rules::kinds::AuthSessionState;
-use rules::kinds::TransferRequestType;
+use crate::frame;
+use rules::kinds::{AuthSessionState, TransferRequestType};
+use rules::{Avp, Checked, Definition, Form, Outcome, Verdict};
 
 fn requires_m(d: Definition) -> bool
     ensures { λ r. ⌜ r ≡ requiresM d ⌝ }
@@ -162,4 +158,25 @@ fn content(s: &[u8], at: usize, a: Avp, d: Definition) -> Outcome
         return refusal(7003, at, a);
     }
     Outcome::Pass
+}
+
+// Checks 2 to 7 of the AVP at a place of a list.
+pub(crate) fn check(s: &[u8], at: usize, end: usize, depth: u32) -> Checked
+    requires { ⌜ InList (now s) at end ⌝ }
+    ensures { λ r. ⌜ r ≡ checked dictionary (now (s .entry)) at end depth ⌝ }
+{
+    let framed = frame::frame(s, at, end);
+    if let Outcome::Refused(v) = framed {
+        return Checked::Fault(v);
+    }
+    let a = frame::avp_at(s, at, end, depth);
+    let d = dictionary::definition(a.vendor, a.code);
+    let judged = content(s, at, a, d);
+    if let Outcome::Refused(v) = judged {
+        return Checked::Fault(v);
+    }
+    if is_group(d) {
+        return Checked::Group(a);
+    }
+    Checked::Plain(a)
 }

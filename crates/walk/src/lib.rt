@@ -1,7 +1,8 @@
 // 01, Order of checks, Walk: the AVPs of a command in walk order, written into a lent log, or the first fault. The list walk
 // and the AVP walk call each other; the depth that is left falls at each group.
 ghost use mathlib.Core.Path.{_≡_};
-use rules::Verdict;
+ghost use Rattle.walk.specs.Promise.{Ready, AvpWalked, ListWalked, CommandWalked};
+use rules::{Checked, Verdict};
 
 mod check;
 mod frame;
@@ -10,4 +11,86 @@ mod frame;
 pub enum Walk {
     Whole(usize),
     Stopped(Verdict),
+}
+
+// One AVP of the list that ends at `end`, with `count` AVPs in the log already.
+fn walk_avp(
+    s: &[u8],
+    at: usize,
+    end: usize,
+    depth: u32,
+    count: usize,
+    log: &mut [u32; 1792],
+) -> Walk
+    requires { ⌜ Ready (now s) at end depth count ⌝ }
+    ensures { λ r. ⌜ AvpWalked (now (s .entry)) at end depth count (now (log .entry)) r (now (log .exit)) ⌝ }
+{
+    if 256 <= count {
+        return Walk::Stopped(Verdict {
+            number: 7002,
+            place: at as u32,
+            vendor: 0,
+            code: 0,
+        });
+    }
+    let c = check::check(s, at, end, depth);
+    match c {
+        Checked::Fault(v) => Walk::Stopped(v),
+        Checked::Plain(a) => {
+            log::put(log, count, a);
+            Walk::Whole(count + 1)
+        }
+        Checked::Group(a) => {
+            log::put(log, count, a);
+            let start = a.start as usize;
+            let length = a.length as usize;
+            walk_list(s, start, start + length, depth + 1, count + 1, log)
+        }
+    }
+}
+
+// The AVPs from a place to the end of their list.
+fn walk_list(
+    s: &[u8],
+    at: usize,
+    end: usize,
+    depth: u32,
+    count: usize,
+    log: &mut [u32; 1792],
+) -> Walk
+    requires { ⌜ Ready (now s) at end depth count ⌝ }
+    ensures { λ r. ⌜ ListWalked (now (s .entry)) at end depth count (now (log .entry)) r (now (log .exit)) ⌝ }
+{
+    let mut place = at;
+    let mut met = count;
+    while place < end {
+        let one = walk_avp(s, place, end, depth, met, log);
+        match one {
+            Walk::Whole(c) => {
+                place = frame::next_at(s, place);
+                met = c;
+            }
+            Walk::Stopped(v) => return Walk::Stopped(v),
+        }
+    }
+    Walk::Whole(met)
+}
+
+// The walk of a command's own list. A command of under 20 octets has no list; one of more than 16,384 is refused as by its
+// header.
+pub fn walk_command(s: &[u8], log: &mut [u32; 1792]) -> Walk
+    ensures { λ r. ⌜ CommandWalked (now (s .entry)) (now (log .entry)) r (now (log .exit)) ⌝ }
+{
+    if 16384 < s.len() {
+        return Walk::Stopped(Verdict {
+            number: 7001,
+            place: 1,
+            vendor: 0,
+            code: 0,
+        });
+    }
+    if s.len() < 20 {
+        return Walk::Whole(0);
+    }
+    walk_list(s, 20, s.len(), 1, 0, log)
 }
