@@ -3,9 +3,11 @@ use mathlib.Core.Path.{_≡_, refl, sym, ap, _∙_}
 use mathlib.Core.Bool.{Bool, true, false}
 use mathlib.Core.List.{List}
 use Prim.Native.Nat.{ℕ, _+_, _-_, _≤_}
+use native.Mathlib.Omega.{arith}
+use lib.Dec.{lit≤}
 use Rattle.rules.specs.declared.Avp.{Avp}
 use Rattle.rules.specs.Octets.{numberAt}
-use Rattle.rules.specs.Avp.{codeAt, flagsAt, flagV, flagM, flagP, lengthAt, headerOf, avpAt}
+use Rattle.rules.specs.Avp.{codeAt, flagsAt, flagV, flagM, flagP, lengthAt, headerOf, avpAt, endOf}
 
 -- the header's octets, where they are known to fit
 pub header-plain : (v : Bool) (n : ℕ) → v ≡ false → headerOf v ≤ n → 8 ≤ n
@@ -38,3 +40,20 @@ module _ (s : List ℕ) (at depth : ℕ) where
   }
   unfolding avpAt
   avpAt-vendor h = rw h
+
+  -- an AVP's data starts behind its header and ends where its length says
+  pub avpAt-start : avpAt s at depth .start ≡ at + headerOf (flagV (flagsAt s at))
+  unfolding avpAt
+  avpAt-start = refl
+
+  pub avpAt-end : headerOf (flagV (flagsAt s at)) ≤ lengthAt s at → endOf (avpAt s at depth) ≡ at + lengthAt s at
+  unfolding avpAt
+  avpAt-end h = omega arith
+
+pub header-least : (v : Bool) → 8 ≤ headerOf v
+header-least true = lit≤ tt
+header-least false = lit≤ tt
+
+pub avpAt-depth : (s : List ℕ) (at depth : ℕ) → avpAt s at depth .depth ≡ depth
+unfolding avpAt
+avpAt-depth s at depth = refl

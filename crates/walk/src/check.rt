@@ -11,8 +11,14 @@ ghost use Rattle.rules.specs.Dictionary.{dictionary, requiresM, isGroup};
 ghost use Rattle.rules.specs.Walk.{wrongFlags, unsupported, wrongWidth, wrongValue, tooDeep, contents, checked};
 ghost use Rattle.walk.specs.Promise.{InList};
 use crate::frame;
-use rules::kinds::{AuthSessionState, TransferRequestType};
-use rules::{Avp, Checked, Definition, Form, Outcome, Verdict};
+use rules::Avp;
+use rules::Checked;
+use rules::Definition;
+use rules::Form;
+use rules::Outcome;
+use rules::Verdict;
+use rules::kinds::AuthSessionState;
+use rules::kinds::TransferRequestType;
 
 fn requires_m(d: Definition) -> bool
     ensures { λ r. ⌜ r ≡ requiresM d ⌝ }

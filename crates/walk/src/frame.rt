@@ -5,7 +5,9 @@ ghost use Rattle.rules.specs.Octets.{padded};
 ghost use Rattle.rules.specs.Avp.{nextAt, avpAt};
 ghost use Rattle.rules.specs.Walk.{framedBy, framing};
 ghost use Rattle.walk.specs.Promise.{InList, Framed};
-use rules::{Avp, Outcome, Verdict};
+use rules::Avp;
+use rules::Outcome;
+use rules::Verdict;
 
 // A length with the padding to a multiple of four.
 fn padded_length(length: usize) -> usize
@@ -23,7 +25,14 @@ pub(crate) fn next_at(s: &[u8], at: usize) -> usize
     at + padded_length(octets::number3(s, at + 5) as usize)
 }
 
-fn framed_by(at: usize, left: usize, header: usize, length: usize, vendor: u32, code: u32) -> Outcome
+fn framed_by(
+    at: usize,
+    left: usize,
+    header: usize,
+    length: usize,
+    vendor: u32,
+    code: u32,
+) -> Outcome
     requires { ⌜ (at < 16777216) × (length < 16777216) ⌝ }
     ensures { λ r. ⌜ r ≡ framedBy at left header length vendor code ⌝ }
 {

@@ -2,7 +2,8 @@
 // and the AVP walk call each other; the depth that is left falls at each group.
 ghost use mathlib.Core.Path.{_≡_};
 ghost use Rattle.walk.specs.Promise.{Ready, AvpWalked, ListWalked, CommandWalked};
-use rules::{Checked, Verdict};
+use rules::Checked;
+use rules::Verdict;
 
 mod check;
 mod frame;

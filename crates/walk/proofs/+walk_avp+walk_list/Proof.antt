@@ -1,0 +1,408 @@
+-- `walk::walk_avp` and `walk::walk_list` meet their contracts. The depth that is left falls at each group, and from the list
+-- walk to its AVPs.
+use borrow.Author.Needs.{needs}
+use native.Mathlib.Omega.{arith}
+use mathlib.Core.Path.{sym, _∙_}
+use Prim.Native.Nat.{ℕ, _+_, _-_, _*_, _<_}
+use Rattle.rules.proofs.Walk.{avp-many, avp-fault}
+use Rattle.walk.proofs.OneAvp.{group-placed, group-level, fault-walked, plain-walked, group-walked}
+use Rattle.walk.proofs.Along.{Turn, turn-start, turn-again, turn-stopped, turn-end}
+use borrow.Fn.Kinds.{In}
+use borrow.Fn.PlainCycle.{Measures, is, falls, and}
+use Rattle.walk.proofs.walk_avp.Reads as walk-avp
+use Rattle.walk.proofs.walk_avp.Kinds as walk-avp-kinds
+use Rattle.walk.proofs.+walk_avp+walk_list.Lts-walk_avp as walk-avp-lts
+use Rattle.walk.proofs.walk_list.Reads as walk-list
+use Rattle.walk.proofs.walk_list.Kinds as walk-list-kinds
+use Rattle.walk.proofs.+walk_avp+walk_list.Lts-walk_list as walk-list-lts
+use Rattle.log.proofs.put.Reads as put-reads
+use Rattle.walk.proofs.check.check.Reads as check-reads
+use Rattle.walk.proofs.frame.next_at.Reads as next-at-reads
+use Rattle.walk.proofs.+walk_avp+walk_list.{statement}
+use Rattle.walk.proofs.+walk_avp+walk_list.Tie.{close}
+
+abbrev μ-walk-avp : Measures 2 walk-avp-kinds.ps ℕ
+μ-walk-avp κs a = 2 * (4 - a .1 .1 .1 .0)
+
+abbrev μ-walk-list : Measures 2 walk-list-kinds.ps ℕ
+μ-walk-list κs a = 2 * (4 - a .1 .1 .1 .0) + 1
+
+abbrev walk-avp-at : ℕ → In 2 walk-avp-kinds.ps
+walk-avp-at t = and 2 walk-avp-kinds.ps (is 2 walk-avp-kinds.ps μ-walk-avp t) walk-avp.Pre
+
+abbrev walk-avp-below : ℕ → In 2 walk-avp-kinds.ps
+walk-avp-below t =
+    and 2 walk-avp-kinds.ps (falls 2 walk-avp-kinds.ps _<_ μ-walk-avp t) walk-avp.Pre
+
+abbrev walk-list-at : ℕ → In 2 walk-list-kinds.ps
+walk-list-at t = and 2 walk-list-kinds.ps (is 2 walk-list-kinds.ps μ-walk-list t) walk-list.Pre
+
+abbrev walk-list-below : ℕ → In 2 walk-list-kinds.ps
+walk-list-below t =
+    and 2 walk-list-kinds.ps (falls 2 walk-list-kinds.ps _<_ μ-walk-list t) walk-list.Pre
+
+walk-avp-cast-t14 : (t : ℕ) → walk-avp-lts.Need-cast-t14 (
+  check-reads.Asked,
+  check-reads.Learnt,
+  put-reads.Asked,
+  put-reads.Learnt,
+  walk-list-below t,
+  walk-list.Post,
+) (walk-avp-at t) walk-avp.Post
+walk-avp-cast-t14 t c = omega arith
+
+walk-avp-returns : (t : ℕ) → walk-avp-lts.Need-returns (
+  check-reads.Asked,
+  check-reads.Learnt,
+  put-reads.Asked,
+  put-reads.Learnt,
+  walk-list-below t,
+  walk-list.Post,
+) (walk-avp-at t) walk-avp.Post
+walk-avp-returns t c =
+    let st = c .before .before in
+    let a = st .args in
+    fault-walked (a .s .now) (a .at) (a .end) (a .depth) (st .pre .1 .place .order) (a .count) (a .log .now) _
+    (λ n. avp-many _ _ _ _ _ _ _ (c .if1 .taken))
+
+walk-avp-check-requires : (t : ℕ) → walk-avp-lts.Need-check-requires (
+  check-reads.Asked,
+  check-reads.Learnt,
+  put-reads.Asked,
+  put-reads.Learnt,
+  walk-list-below t,
+  walk-list.Post,
+) (walk-avp-at t) walk-avp.Post
+walk-avp-check-requires t c κs = c .before .before .pre .1 .place
+
+walk-avp-enum-known-c : (t : ℕ) → walk-avp-lts.Need-enum-known-c (
+  check-reads.Asked,
+  check-reads.Learnt,
+  put-reads.Asked,
+  put-reads.Learnt,
+  walk-list-below t,
+  walk-list.Post,
+) (walk-avp-at t) walk-avp.Post
+walk-avp-enum-known-c t c = search needs
+
+walk-avp-enum-known-c-2 : (t : ℕ) → walk-avp-lts.Need-enum-known-c-2 (
+  check-reads.Asked,
+  check-reads.Learnt,
+  put-reads.Asked,
+  put-reads.Learnt,
+  walk-list-below t,
+  walk-list.Post,
+) (walk-avp-at t) walk-avp.Post
+walk-avp-enum-known-c-2 t c = search needs
+
+walk-avp-put-requires : (t : ℕ) → walk-avp-lts.Need-put-requires (
+  check-reads.Asked,
+  check-reads.Learnt,
+  put-reads.Asked,
+  put-reads.Learnt,
+  walk-list-below t,
+  walk-list.Post,
+) (walk-avp-at t) walk-avp.Post
+walk-avp-put-requires t c κs = search needs
+
+walk-avp-add-t19 : (t : ℕ) → walk-avp-lts.Need-add-t19 (
+  check-reads.Asked,
+  check-reads.Learnt,
+  put-reads.Asked,
+  put-reads.Learnt,
+  walk-list-below t,
+  walk-list.Post,
+) (walk-avp-at t) walk-avp.Post
+walk-avp-add-t19 t c = omega arith
+
+walk-avp-enum-known-c-3 : (t : ℕ) → walk-avp-lts.Need-enum-known-c-3 (
+  check-reads.Asked,
+  check-reads.Learnt,
+  put-reads.Asked,
+  put-reads.Learnt,
+  walk-list-below t,
+  walk-list.Post,
+) (walk-avp-at t) walk-avp.Post
+walk-avp-enum-known-c-3 t c = search needs
+
+walk-avp-put-requires-2 : (t : ℕ) → walk-avp-lts.Need-put-requires-2 (
+  check-reads.Asked,
+  check-reads.Learnt,
+  put-reads.Asked,
+  put-reads.Learnt,
+  walk-list-below t,
+  walk-list.Post,
+) (walk-avp-at t) walk-avp.Post
+walk-avp-put-requires-2 t c κs = search needs
+
+walk-avp-cast-start : (t : ℕ) → walk-avp-lts.Need-cast-start (
+  check-reads.Asked,
+  check-reads.Learnt,
+  put-reads.Asked,
+  put-reads.Learnt,
+  walk-list-below t,
+  walk-list.Post,
+) (walk-avp-at t) walk-avp.Post
+walk-avp-cast-start t c = search needs
+
+walk-avp-cast-length : (t : ℕ) → walk-avp-lts.Need-cast-length (
+  check-reads.Asked,
+  check-reads.Learnt,
+  put-reads.Asked,
+  put-reads.Learnt,
+  walk-list-below t,
+  walk-list.Post,
+) (walk-avp-at t) walk-avp.Post
+walk-avp-cast-length t c = search needs
+
+walk-avp-add-walk-list : (t : ℕ) → walk-avp-lts.Need-add-walk-list (
+  check-reads.Asked,
+  check-reads.Learnt,
+  put-reads.Asked,
+  put-reads.Learnt,
+  walk-list-below t,
+  walk-list.Post,
+) (walk-avp-at t) walk-avp.Post
+walk-avp-add-walk-list t c =
+    let g = c .before .before .before .before .before in
+    let k = g .before .before in
+    let st = k .before .before .before in
+    let a = st .args in
+    let e = sym (k .check .ensures) ∙ g .c3 .given .1 in
+    let p = group-placed (a .s .now) (a .at) (a .end) (a .depth) (st .pre .1 .place .order) e in
+    omega (arith, p, st .pre .1 .place)
+
+walk-avp-add-walk-list-2 : (t : ℕ) → walk-avp-lts.Need-add-walk-list-2 (
+  check-reads.Asked,
+  check-reads.Learnt,
+  put-reads.Asked,
+  put-reads.Learnt,
+  walk-list-below t,
+  walk-list.Post,
+) (walk-avp-at t) walk-avp.Post
+walk-avp-add-walk-list-2 t c = omega (arith, c .before .before .before .before .before .before .before .before .before .before .pre .1)
+
+walk-avp-add-walk-list-3 : (t : ℕ) → walk-avp-lts.Need-add-walk-list-3 (
+  check-reads.Asked,
+  check-reads.Learnt,
+  put-reads.Asked,
+  put-reads.Learnt,
+  walk-list-below t,
+  walk-list.Post,
+) (walk-avp-at t) walk-avp.Post
+walk-avp-add-walk-list-3 t c = omega (arith, c .before .before .before .before .before .before .before .before .if1 .left)
+
+walk-avp-walk-list-requires : (t : ℕ) → walk-avp-lts.Need-walk-list-requires (
+  check-reads.Asked,
+  check-reads.Learnt,
+  put-reads.Asked,
+  put-reads.Learnt,
+  walk-list-below t,
+  walk-list.Post,
+) (walk-avp-at t) walk-avp.Post
+walk-avp-walk-list-requires t c κs =
+    let g = c .before .before .before .before .before .before in
+    let k = g .before .before in
+    let st = k .before .before .before in
+    let a = st .args in
+    let e = sym (k .check .ensures) ∙ g .c3 .given .1 in
+    let p = group-placed (a .s .now) (a .at) (a .end) (a .depth) (st .pre .1 .place .order) e in
+    let l = group-level (a .s .now) (a .at) (a .end) (a .depth) (st .pre .1 .place .order) e in
+    let few = k .before .if1 .left in
+    let place = st .pre .1 .place in (
+      omega (arith, l, st .pre .0),
+      record { place = omega (arith, p, place); level = omega (arith, l); few = omega (arith, few) },
+    )
+
+walk-avp-returns-2 : (t : ℕ) → walk-avp-lts.Need-returns-2 (
+  check-reads.Asked,
+  check-reads.Learnt,
+  put-reads.Asked,
+  put-reads.Learnt,
+  walk-list-below t,
+  walk-list.Post,
+) (walk-avp-at t) walk-avp.Post
+walk-avp-returns-2 t c =
+    let k = c .before .before .before in
+    let st = k .before .before .before in
+    let a = st .args in
+    fault-walked (a .s .now) (a .at) (a .end) (a .depth) (st .pre .1 .place .order) (a .count) (a .log .now) _
+    (λ n. avp-fault _ _ _ _ _ _ _ (k .before .if1 .left) (sym (k .check .ensures) ∙ c .before .c .given .1))
+
+walk-avp-returns-3 : (t : ℕ) → walk-avp-lts.Need-returns-3 (
+  check-reads.Asked,
+  check-reads.Learnt,
+  put-reads.Asked,
+  put-reads.Learnt,
+  walk-list-below t,
+  walk-list.Post,
+) (walk-avp-at t) walk-avp.Post
+walk-avp-returns-3 t c =
+    let g = c .before .before .before in
+    let k = g .before .before in
+    let st = k .before .before .before in
+    let a = st .args in
+    plain-walked (a .s .now) (a .at) (a .end) (a .depth) (st .pre .1 .place .order) (a .count) (a .log .now) (k .before .if1 .left)
+    _ (c .put .ensures) (sym (k .check .ensures) ∙ g .c2 .given .1)
+
+walk-avp-returns-4 : (t : ℕ) → walk-avp-lts.Need-returns-4 (
+  check-reads.Asked,
+  check-reads.Learnt,
+  put-reads.Asked,
+  put-reads.Learnt,
+  walk-list-below t,
+  walk-list.Post,
+) (walk-avp-at t) walk-avp.Post
+walk-avp-returns-4 t c =
+    let w = c .before .before .before .before in
+    let g = w .before .before .before in
+    let k = g .before .before in
+    let st = k .before .before .before in
+    let a = st .args in
+    group-walked (a .s .now) (a .at) (a .end) (a .depth) (st .pre .1 .place .order) (a .count) (a .log .now) (k .before .if1 .left)
+    _ (w .put2 .ensures) (sym (k .check .ensures) ∙ g .c3 .given .1) _ _ (c .walk-list .ensures)
+
+abbrev walk-list-Inv-loop : walk-list-lts.InvT-loop
+walk-list-Inv-loop s at end depth count log₀ place₀ met₀ log place met = Turn s at end depth count log₀ place met log
+
+abbrev walk-list-μ-loop : walk-list-lts.MeasureT-loop
+walk-list-μ-loop s at end depth count log₀ place₀ met₀ log place met = end - place
+
+walk-list-loop-holds : (t : ℕ) → walk-list-lts.Need-loop-holds (
+  walk-avp-below t,
+  walk-avp.Post,
+  next-at-reads.Asked,
+  next-at-reads.Learnt,
+) (walk-list-at t) walk-list.Post walk-list-Inv-loop walk-list-μ-loop
+walk-list-loop-holds t c =
+    let st = c .before in
+    turn-start _ _ _ _ _ _ (st .pre .1 .place .order) (st .pre .1 .few)
+
+walk-list-walk-avp-requires : (t : ℕ) → walk-list-lts.Need-walk-avp-requires (
+  walk-avp-below t,
+  walk-avp.Post,
+  next-at-reads.Asked,
+  next-at-reads.Learnt,
+) (walk-list-at t) walk-list.Post walk-list-Inv-loop walk-list-μ-loop
+walk-list-walk-avp-requires t c κs =
+    let lp = c .before .before in
+    let st = lp .before .before in
+    let turn = lp .loop .inv in (
+      omega (arith, st .pre .0),
+      record { place = omega (arith, turn .order, c .before .loop-test .taken, st .pre .1 .place); level = st .pre .1 .level; few = turn .few },
+    )
+
+walk-list-enum-known-one : (t : ℕ) → walk-list-lts.Need-enum-known-one (
+  walk-avp-below t,
+  walk-avp.Post,
+  next-at-reads.Asked,
+  next-at-reads.Learnt,
+) (walk-list-at t) walk-list.Post walk-list-Inv-loop walk-list-μ-loop
+walk-list-enum-known-one t c = search needs
+
+walk-list-next-at-requires : (t : ℕ) → walk-list-lts.Need-next-at-requires (
+  walk-avp-below t,
+  walk-avp.Post,
+  next-at-reads.Asked,
+  next-at-reads.Learnt,
+) (walk-list-at t) walk-list.Post walk-list-Inv-loop walk-list-μ-loop
+walk-list-next-at-requires t c κs =
+    let lp = c .before .before .before .before .before .before in
+    omega (arith, lp .loop .inv .order, lp .before .before .pre .1 .place)
+
+walk-list-loop-less : (t : ℕ) → walk-list-lts.Need-loop-less (
+  walk-avp-below t,
+  walk-avp.Post,
+  next-at-reads.Asked,
+  next-at-reads.Learnt,
+) (walk-list-at t) walk-list.Post walk-list-Inv-loop walk-list-μ-loop
+walk-list-loop-less t c =
+    let w = c .before .before .before .before in
+    let on = w .walk-avp .ensures .within _ (c .before .before .one .given .1) in
+    omega (arith, on, c .next-at .ensures)
+
+walk-list-loop-again : (t : ℕ) → walk-list-lts.Need-loop-again (
+  walk-avp-below t,
+  walk-avp.Post,
+  next-at-reads.Asked,
+  next-at-reads.Learnt,
+) (walk-list-at t) walk-list.Post walk-list-Inv-loop walk-list-μ-loop
+walk-list-loop-again t c =
+    let w = c .before .before .before .before in
+    let lp = w .before .before .before in
+    rw (c .next-at .ensures)
+    (turn-again _ _ _ _ _ _ _ _ _ (lp .loop .inv) (w .before .before .loop-test .taken) _ _
+    (rw (c .before .before .one .given .1) at (w .walk-avp .ensures)))
+
+walk-list-enum-known-one-2 : (t : ℕ) → walk-list-lts.Need-enum-known-one-2 (
+  walk-avp-below t,
+  walk-avp.Post,
+  next-at-reads.Asked,
+  next-at-reads.Learnt,
+) (walk-list-at t) walk-list.Post walk-list-Inv-loop walk-list-μ-loop
+walk-list-enum-known-one-2 t c = search needs
+
+walk-list-returns : (t : ℕ) → walk-list-lts.Need-returns (
+  walk-avp-below t,
+  walk-avp.Post,
+  next-at-reads.Asked,
+  next-at-reads.Learnt,
+) (walk-list-at t) walk-list.Post walk-list-Inv-loop walk-list-μ-loop
+walk-list-returns t c =
+    let w = c .before .before .before in
+    let lp = w .before .before .before in
+    turn-stopped _ _ _ _ _ _ _ _ _ (lp .loop .inv) (w .before .before .loop-test .taken) _ _
+    (rw (c .before .one2 .given .1) at (w .walk-avp .ensures))
+
+walk-list-returns-2 : (t : ℕ) → walk-list-lts.Need-returns-2 (
+  walk-avp-below t,
+  walk-avp.Post,
+  next-at-reads.Asked,
+  next-at-reads.Learnt,
+) (walk-list-at t) walk-list.Post walk-list-Inv-loop walk-list-μ-loop
+walk-list-returns-2 t c = turn-end _ _ _ _ _ _ _ _ _ (c .before .loop .inv) (c .loop-test .left)
+
+pub +walk-avp+walk-list-spec : {M : Type 1} → statement M
++walk-avp+walk-list-spec = close μ-walk-avp μ-walk-list (λ t. walk-avp-lts.spec (
+  check-reads.Asked,
+  check-reads.Learnt,
+  put-reads.Asked,
+  put-reads.Learnt,
+  walk-list-below t,
+  walk-list.Post,
+)
+    (walk-avp-at t)
+    walk-avp.Post
+    (walk-avp-cast-t14 t)
+    (walk-avp-returns t)
+    (walk-avp-check-requires t)
+    (walk-avp-enum-known-c t)
+    (walk-avp-enum-known-c-2 t)
+    (walk-avp-put-requires t)
+    (walk-avp-add-t19 t)
+    (walk-avp-enum-known-c-3 t)
+    (walk-avp-put-requires-2 t)
+    (walk-avp-cast-start t)
+    (walk-avp-cast-length t)
+    (walk-avp-add-walk-list t)
+    (walk-avp-add-walk-list-2 t)
+    (walk-avp-add-walk-list-3 t)
+    (walk-avp-walk-list-requires t)
+    (walk-avp-returns-2 t)
+    (walk-avp-returns-3 t)
+    (walk-avp-returns-4 t))
+    λ t. walk-list-lts.spec
+    (walk-avp-below t, walk-avp.Post, next-at-reads.Asked, next-at-reads.Learnt)
+    (walk-list-at t)
+    walk-list.Post
+    walk-list-Inv-loop
+    walk-list-μ-loop
+    (walk-list-loop-holds t)
+    (walk-list-walk-avp-requires t)
+    (walk-list-enum-known-one t)
+    (walk-list-next-at-requires t)
+    (walk-list-loop-less t)
+    (walk-list-loop-again t)
+    (walk-list-enum-known-one-2 t)
+    (walk-list-returns t)
+    (walk-list-returns-2 t)
