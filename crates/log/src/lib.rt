@@ -2,6 +2,7 @@
 // the exchange rules work on it, so that no record is copied from one AVP to the next.
 ghost use mathlib.Core.Path.{_≡_};
 ghost use Prim.Native.Nat.{_-_};
+ghost use lib.ListN.{length};
 ghost use Rattle.log.specs.Log.{bit, putAvp, avpOf};
 use rules::Avp;
 
@@ -22,6 +23,19 @@ fn length_of(start: u32, end: u32) -> u32
         return 0;
     }
     end - start
+}
+
+fn length(numbers: &[u32]) -> usize
+    ensures { λ r. ⌜ r ≡ length (now (numbers .entry)) ⌝ }
+{
+    numbers.len()
+}
+
+// The numbers of a log. A proof takes from here that what a log holds is as long as its type says.
+pub fn size(log: &[u32; 1792]) -> usize
+    ensures { λ r. ⌜ (r ≡ 1792) × (length (now (log .entry)) ≡ 1792) ⌝ }
+{
+    length(log)
 }
 
 // Keeps an AVP at a position. A position from 256 on, or data whose end does not fit four octets, leaves the log as it was.

@@ -217,6 +217,10 @@ module _ (list : ℕ → ℕ → ℕ → ℕ → Walked) (dict : List Entry) (s 
 
 -- ---- the list
 
+pub list-none : (dict : List Entry) (s : List ℕ) (at end depth count : ℕ) → walkList zero dict s at end depth count ≡ whole []
+unfolding walkList
+list-none dict s at end depth count = refl
+
 pub list-end : (n : ℕ) (dict : List Entry) (s : List ℕ) (at end depth count : ℕ) → end ≤ at → walkList n dict s at end depth count ≡ whole []
 unfolding walkList
 list-end zero dict s at end depth count h = refl

@@ -2,3 +2,4 @@
 mod Framing
 mod OneAvp
 mod Along
+mod Bounds

@@ -82,6 +82,7 @@ fn walk_list(
 pub fn walk_command(s: &[u8], log: &mut [u32; 1792]) -> Walk
     ensures { λ r. ⌜ CommandWalked (now (s .entry)) (now (log .entry)) r (now (log .exit)) ⌝ }
 {
+    log::size(log);
     if 16384 < s.len() {
         return Walk::Stopped(Verdict {
             number: 7001,
