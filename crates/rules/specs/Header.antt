@@ -7,7 +7,7 @@ use lib.Dec.{ltb, eqb}
 use Rattle.rules.specs.declared.Outcome.{Outcome}
 use Rattle.rules.specs.declared.Outcome.the-variants.{Pass}
 use Rattle.rules.specs.Octets.{numberAt, flag}
-use Rattle.rules.specs.Verdict.{refused, refuseIf}
+use Rattle.rules.specs.Verdict.{refused, refuseIf, orElse}
 
 abbrev pub headerSize : ℕ
 headerSize = 20
@@ -57,16 +57,29 @@ codeBackgroundDataTransfer = 8388723
 abbrev pub longestCommand : ℕ
 longestCommand = 16384
 
--- Order of checks, Header; vendor and code are 0
-unfoldable pub headerOutcome : List ℕ → Outcome
-headerOutcome s =
+-- Order of checks, Header: length and version; vendor and code are 0 in each refusal
+unfoldable pub lengthOutcome : List ℕ → Outcome
+lengthOutcome s =
     refuseIf (ltb (length s) headerSize) (refused 5015 0 0 0)
     (refuseIf (not (eqb (version s) 1)) (refused 5011 0 0 0)
     (refuseIf (ltb (lengthField s) headerSize || not (eqb (lengthField s % 4) 0) || not (eqb (lengthField s) (length s)))
     (refused 5015 1 0 0)
     (refuseIf (ltb longestCommand (lengthField s)) (refused 7001 1 0 0)
-    (refuseIf (not (eqb (application s) applicationNt)) (refused 3007 8 0 0)
+    Pass)))
+
+-- application, then command code
+unfoldable pub applicationOutcome : List ℕ → Outcome
+applicationOutcome s =
+    refuseIf (not (eqb (application s) applicationNt)) (refused 3007 8 0 0)
     (refuseIf (not (eqb (commandCode s) codeBackgroundDataTransfer)) (refused 3001 5 0 0)
-    (refuseIf (isRequest (commandFlags s) && isError (commandFlags s) || not (isProxiable (commandFlags s))) (refused 3008 4 0 0)
-    (refuseIf (isError (commandFlags s)) (refused 7005 4 0 0)
-    Pass)))))))
+    Pass)
+
+-- R and E both set, or P clear; then E set
+unfoldable pub flagsOutcome : ℕ → Outcome
+flagsOutcome flags =
+    refuseIf (isRequest flags && isError flags || not (isProxiable flags)) (refused 3008 4 0 0)
+    (refuseIf (isError flags) (refused 7005 4 0 0)
+    Pass)
+
+unfoldable pub headerOutcome : List ℕ → Outcome
+headerOutcome s = orElse (lengthOutcome s) (orElse (applicationOutcome s) (flagsOutcome (commandFlags s)))

@@ -1,0 +1,19 @@
+-- Laws of outcomes: the first refusal is the answer, and a pass lets the next checks speak.
+use mathlib.Core.Path.{_≡_, refl}
+use Prim.Native.Nat.{ℕ}
+use native.Mathlib.Omega.{arith}
+use Rattle.rules.specs.declared.Verdict.{Verdict}
+use Rattle.rules.specs.declared.Outcome.{Outcome}
+use Rattle.rules.specs.declared.Outcome.the-variants.{Pass, Refused}
+use Rattle.rules.specs.Verdict.{orElse}
+
+pub refused-first : (o p : Outcome) {v : Verdict} → o ≡ Refused v → orElse o p ≡ o
+refused-first o p e = rw e
+
+pub pass-first : (o p : Outcome) → o ≡ Pass → orElse o p ≡ p
+pass-first o p e = rw e
+
+-- what passes as a whole passes in each part
+pub both-pass : (o p : Outcome) → orElse o p ≡ Pass → (o ≡ Pass) × (p ≡ Pass)
+both-pass Pass p e = (refl, e)
+both-pass (Refused v) p e = let z : _≡_ {A = ℕ} 0 1 = cc in absurd (omega arith)
