@@ -1,0 +1,58 @@
+// An AVP of a walk: its name, its place, and refusals at it.
+ghost use mathlib.Core.Path.{_≡_};
+ghost use Prim.Native.Nat.{_-_};
+ghost use Rattle.rules.specs.Verdict.{refused};
+ghost use Rattle.rules.specs.Avp.{named, placeOf};
+ghost use Rattle.rules.specs.RowChecks.{memberFault};
+use rules::Avp;
+use rules::Outcome;
+use rules::Verdict;
+use rules::kinds::NO_VENDOR;
+
+// An AVP is named by vendor and code together.
+pub fn is_named(a: Avp, vendor: u32, code: u32) -> bool
+    ensures { λ r. ⌜ r ≡ named a vendor code ⌝ }
+{
+    if a.vendor != vendor {
+        return false;
+    }
+    a.code == code
+}
+
+// The place so many octets before another, 0 where there are not so many.
+fn place_before(place: u32, octets: u32) -> u32
+    ensures { λ r. ⌜ r ≡ place - octets ⌝ }
+{
+    if place < octets {
+        return 0;
+    }
+    place - octets
+}
+
+// The first octet of an AVP, whose V is set exactly where its vendor is not 0.
+pub fn place_of(a: Avp) -> u32
+    ensures { λ r. ⌜ r ≡ placeOf a ⌝ }
+{
+    if a.vendor == NO_VENDOR {
+        return place_before(a.start, 8);
+    }
+    place_before(a.start, 12)
+}
+
+pub fn refusal(number: u32, place: u32, vendor: u32, code: u32) -> Outcome
+    ensures { λ r. ⌜ r ≡ refused number place vendor code ⌝ }
+{
+    Outcome::Refused(Verdict {
+        number,
+        place,
+        vendor,
+        code,
+    })
+}
+
+// A refusal at an AVP that is there.
+pub fn member_fault(number: u32, a: Avp) -> Outcome
+    ensures { λ r. ⌜ r ≡ memberFault number a ⌝ }
+{
+    refusal(number, place_of(a), a.vendor, a.code)
+}
