@@ -25,6 +25,16 @@ module _ (log : List ℕ) (i : ℕ) where
   unfolding avpOf
   avpOf-in h = rw (lt-ltb i 256 h)
 
+  -- the end of the data
+  pub data-end-out : 256 ≤ i → endOf (avpOf log i) ≡ 0
+  data-end-out h = rw (avpOf-out h)
+
+  pub data-end-at-start : i < 256 → getD log (i * 7 + 6) 0 < getD log (i * 7 + 5) 0 → endOf (avpOf log i) ≡ getD log (i * 7 + 5) 0
+  data-end-at-start h k = rw (avpOf-in h) (omega arith)
+
+  pub data-end-at-end : i < 256 → getD log (i * 7 + 5) 0 ≤ getD log (i * 7 + 6) 0 → endOf (avpOf log i) ≡ getD log (i * 7 + 6) 0
+  data-end-at-end h k = rw (avpOf-in h) (omega arith)
+
   module _ (a : Avp) where
     pub putAvp-out : 256 ≤ i → putAvp log i a ≡ log
     unfolding putAvp
@@ -57,6 +67,10 @@ drop-avpsFrom log i (suc n) (suc k) h =
 pub length-avpsIn : (log : List ℕ) (count : ℕ) → count ≤ 256 → length (avpsIn log count) ≡ count
 unfolding avpsIn
 length-avpsIn log count h = length-avpsFrom log 0 (min count 256) ∙ omega arith
+
+pub avps-used : (log : List ℕ) (count : ℕ) → avpsIn log (min count 256) ≡ avpsIn log count
+unfolding avpsIn
+avps-used log count = ap (avpsFrom log 0) (omega arith)
 
 -- the AVPs from a position on: the one there, and those after it
 pub avps-cons : (log : List ℕ) (count i : ℕ) → count ≤ 256 → i < count

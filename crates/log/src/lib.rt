@@ -1,8 +1,9 @@
 // The log that a walk is written into: seven numbers for each AVP in an array that the caller lends. The walk, the rows and
 // the exchange rules work on it, so that no record is copied from one AVP to the next.
 ghost use mathlib.Core.Path.{_≡_};
-ghost use Prim.Native.Nat.{_-_};
+ghost use Prim.Native.Nat.{_-_, min};
 ghost use lib.ListN.{length};
+ghost use Rattle.rules.specs.Avp.{endOf};
 ghost use Rattle.log.specs.Log.{bit, putAvp, avpOf};
 use rules::Avp;
 
@@ -36,6 +37,16 @@ pub fn size(log: &[u32; 1792]) -> usize
     ensures { λ r. ⌜ (r ≡ 1792) × (length (now (log .entry)) ≡ 1792) ⌝ }
 {
     length(log)
+}
+
+// A count above 256 is read as 256.
+pub fn used(count: usize) -> usize
+    ensures { λ r. ⌜ r ≡ min count 256 ⌝ }
+{
+    if 256 < count {
+        return 256;
+    }
+    count
 }
 
 // Keeps an AVP at a position. A position from 256 on, or data whose end does not fit four octets, leaves the log as it was.
@@ -83,4 +94,20 @@ pub fn get(log: &[u32; 1792], position: usize) -> Avp
         start: log[at + 5],
         length: length_of(log[at + 5], log[at + 6]),
     }
+}
+
+// Where the data of the AVP at a position ends, 0 from 256 on.
+pub fn data_end(log: &[u32; 1792], position: usize) -> u32
+    ensures { λ r. ⌜ r ≡ endOf (avpOf (now (log .entry)) position) ⌝ }
+{
+    if 256 <= position {
+        return 0;
+    }
+    let at = position * 7;
+    let start = log[at + 5];
+    let end = log[at + 6];
+    if end < start {
+        return start;
+    }
+    end
 }
