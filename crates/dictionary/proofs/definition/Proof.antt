@@ -1,9 +1,8 @@
 -- `dictionary::definition` meets its contract.
 use borrow.Author.Needs.{needs}
-use mathlib.Core.Path.{ap, sym, _∙_}
+use mathlib.Core.Path.{_∙_}
 use mathlib.Core.List.{[], _∷_}
-use Prim.Native.Nat.{ℕ}
-use Rattle.rules.specs.Dictionary.{find, dictionary}
+use Rattle.rules.specs.Dictionary.{dictionary}
 use Rattle.rules.proofs.Names.{find-absent-vendor}
 use Rattle.dictionary.proofs.definition.Statement.{statement}
 use Rattle.dictionary.proofs.definition.Tie as tie
