@@ -113,6 +113,7 @@ module _ (s : List ℕ) where
         record {
           answer = answer;
           logged = logged;
+          few = l .within;
           read = λ c e. read-back before after room logged c (l .within c e) (commandWalk s) refl (sym e ∙ answer);
         }
 
@@ -123,6 +124,7 @@ module _ (s : List ℕ) where
         record {
           answer = answer;
           logged = logged;
+          few = λ c e. let n : 0 ≡ c = cc in omega arith;
           read = λ c e.
               let n : 0 ≡ c = cc in
               read-back before before room logged c (omega arith) (commandWalk s) refl (sym e ∙ answer);
@@ -132,5 +134,6 @@ module _ (s : List ℕ) where
   refused-walked before h = record {
     answer = rw (long-command h);
     logged = rw (long-command h);
+    few = λ c e. let z : _≡_ {A = ℕ} 0 1 = cc in absurd (omega arith);
     read = λ c e. let z : _≡_ {A = ℕ} 0 1 = cc in absurd (omega arith);
   }

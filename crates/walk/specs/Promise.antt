@@ -61,4 +61,5 @@ commandWalk s = cond (ltb longestCommand (length s)) (stopped [] (verdict 7001 1
 pub record CommandWalked (s before : List ℕ) (r : Walk) (after : List ℕ) : Type 0 where
   pub answer : r ≡ answerOf 0 (commandWalk s)
   pub logged : after ≡ written before 0 (avpsOf (commandWalk s))
+  pub few : (c : ℕ) → r ≡ Whole c → c ≤ 256
   pub read : (c : ℕ) → r ≡ Whole c → avpsIn after c ≡ avpsOf (commandWalk s)

@@ -6,11 +6,12 @@ ghost use lib.Dec.{eqb};
 ghost use lib.ListN.{length};
 ghost use Rattle.rules.specs.Octets.{numberAt};
 ghost use Rattle.rules.specs.Verdict.{refused};
-ghost use Rattle.rules.specs.Avp.{flagV, named};
+ghost use Rattle.rules.specs.Avp.{flagV};
 ghost use Rattle.rules.specs.Dictionary.{dictionary, requiresM, isGroup};
 ghost use Rattle.rules.specs.Walk.{wrongFlags, unsupported, wrongWidth, wrongValue, tooDeep, contents, checked};
 ghost use Rattle.walk.specs.Promise.{InList};
 use crate::frame;
+use avp::is_named;
 use rules::Avp;
 use rules::Checked;
 use rules::Definition;
@@ -40,15 +41,6 @@ fn is_group(d: Definition) -> bool
         },
         Definition::Unknown => false,
     }
-}
-
-fn is_named(a: Avp, vendor: u32, code: u32) -> bool
-    ensures { λ r. ⌜ r ≡ named a vendor code ⌝ }
-{
-    if a.vendor != vendor {
-        return false;
-    }
-    a.code == code
 }
 
 // V set with vendor 0.
@@ -135,12 +127,7 @@ fn refusal(number: u32, at: usize, a: Avp) -> Outcome
     requires { ⌜ at < 16777216 ⌝ }
     ensures { λ r. ⌜ r ≡ refused number at (a .vendor) (a .code) ⌝ }
 {
-    Outcome::Refused(Verdict {
-        number,
-        place: at as u32,
-        vendor: a.vendor,
-        code: a.code,
-    })
+    avp::refusal(number, at as u32, a.vendor, a.code)
 }
 
 // Checks 3 to 7 of the AVP at a place, with what the dictionary says of its name.
