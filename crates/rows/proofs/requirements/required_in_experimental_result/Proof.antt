@@ -1,0 +1,21 @@
+-- `rows::requirements::required_in_experimental_result` meets its contract: an arm knows the position, and `_` that it is past the last.
+use borrow.Author.Needs.{needs}
+use mathlib.Core.Path.{refl}
+use Rattle.rules.specs.declared.Grammar.the-variants.{ExperimentalResult}
+use Rattle.rules.specs.Rows.{rowsOf}
+use Rattle.rules.proofs.Names.{answer-at}
+use Rattle.rows.specs.Required.{requiredFrom, requiredAt}
+use Rattle.rows.proofs.Rows.{required-absent}
+use Rattle.rows.proofs.requirements.required_in_experimental_result.Statement.{statement}
+use Rattle.rows.proofs.requirements.required_in_experimental_result.Tie as tie
+
+pub required-in-experimental-result-spec : {M : Type 1} → statement M
+unfolding requiredAt requiredFrom rowsOf
+required-in-experimental-result-spec =
+    tie.close
+    (tie.spec
+    (λ c κs. search needs)
+    (λ c κs. search needs)
+    (λ c. answer-at (requiredAt ExperimentalResult) (c .before .match .keys1) (c .next .ensures) refl)
+    (λ c. answer-at (requiredAt ExperimentalResult) (c .before .match .keys2) (c .next2 .ensures) refl)
+    (λ c. required-absent ExperimentalResult _ (c .match .rest)))

@@ -1,0 +1,19 @@
+-- `rows::requirements::required_in_transfer_policy` meets its contract: an arm knows the position, and `_` that it is past the last.
+use borrow.Author.Needs.{needs}
+use mathlib.Core.Path.{refl}
+use Rattle.rules.specs.declared.Grammar.the-variants.{TransferPolicy}
+use Rattle.rules.specs.Rows.{rowsOf}
+use Rattle.rules.proofs.Names.{answer-at}
+use Rattle.rows.specs.Required.{requiredFrom, requiredAt}
+use Rattle.rows.proofs.Rows.{required-absent}
+use Rattle.rows.proofs.requirements.required_in_transfer_policy.Statement.{statement}
+use Rattle.rows.proofs.requirements.required_in_transfer_policy.Tie as tie
+
+pub required-in-transfer-policy-spec : {M : Type 1} → statement M
+unfolding requiredAt requiredFrom rowsOf
+required-in-transfer-policy-spec =
+    tie.close
+    (tie.spec
+    (λ c κs. search needs)
+    (λ c. answer-at (requiredAt TransferPolicy) (c .before .match .keys1) (c .next .ensures) refl)
+    (λ c. required-absent TransferPolicy _ (c .match .rest)))
