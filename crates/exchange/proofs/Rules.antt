@@ -1,0 +1,147 @@
+-- Laws of the exchange rules: each rule by what its searches found, and a rule at one position after another.
+use mathlib.Core.Path.{_≡_, refl, sym, _∙_}
+use mathlib.Core.List.{List, [], _∷_}
+use Prim.Native.Nat.{ℕ, _+_, _≤_, _<_}
+use lib.ListN.{drop}
+use Rattle.rules.specs.declared.Avp.{Avp}
+use Rattle.rules.specs.declared.Verdict.{Verdict}
+use Rattle.rules.specs.declared.Outcome.{Outcome}
+use Rattle.rules.specs.declared.Outcome.the-variants.{Pass, Refused}
+use Rattle.rules.specs.declared.Found.{Found}
+use Rattle.rules.specs.declared.Found.the-variants.{At, Nothing}
+use Rattle.rules.specs.Octets.{numberAt}
+use Rattle.rules.specs.Verdict.{refused, orElse}
+use Rattle.rules.specs.Avp.{endOf}
+use Rattle.rules.specs.RowChecks.{memberFault}
+use Rattle.rules.specs.Exchange.{avpIn, firstFrom, search as searched, member, present, require, volume, byRequestType, requestOutcome}
+use Rattle.rules.specs.Exchange.{resultBy, resultOutcome, policiesOutcome, windowBy, windowOutcome, eachPolicy, eachWindow}
+use Rattle.log.specs.Log.{avpOf, avpsIn}
+use Rattle.log.proofs.Log.{avps-cons, avps-end}
+use Rattle.exchange.specs.Positions.{policyAt, timesBy, windowAt}
+
+-- ---- an AVP that must be there
+
+module _ (end vendor code : ℕ) (f : Found) where
+  pub present-at : (i : ℕ) → f ≡ At i → Pass ≡ present end vendor code f
+  present-at i e = rw e
+
+  pub present-nothing : f ≡ Nothing → refused 5005 end vendor code ≡ present end vendor code f
+  present-nothing e = rw e
+
+-- ---- requests
+
+module _ (xs : List Avp) (end : ℕ) where
+  pub volume-input : (i : ℕ) → searched xs 0 412 ≡ At i → Pass ≡ volume xs end
+  unfolding volume
+  volume-input i e = rw e
+
+  pub volume-total : (i : ℕ) → searched xs 0 412 ≡ Nothing → searched xs 0 421 ≡ At i → Pass ≡ volume xs end
+  unfolding volume
+  volume-total i e d = rw (e, d)
+
+  pub volume-output : searched xs 0 412 ≡ Nothing → searched xs 0 421 ≡ Nothing → require xs end 0 414 ≡ volume xs end
+  unfolding volume
+  volume-output e d = rw (e, d)
+
+  module _ (s : List ℕ) where
+    pub request-typed : (i : ℕ) → searched xs 10415 4203 ≡ At i
+        → byRequestType xs end (numberAt 4 s (avpIn xs i .start)) ≡ requestOutcome xs s end
+    unfolding requestOutcome
+    request-typed i e = rw e
+
+    pub request-untyped : searched xs 10415 4203 ≡ Nothing → refused 5005 end 10415 4203 ≡ requestOutcome xs s end
+    unfolding requestOutcome
+    request-untyped e = rw e
+
+-- ---- answers
+
+resultBy-plain : (xs : List Avp) (end : ℕ) (f : Found) → present end 0 268 f ≡ resultBy xs end f Nothing
+resultBy-plain xs end (At i) = refl
+resultBy-plain xs end Nothing = refl
+
+module _ (xs : List Avp) (end : ℕ) where
+  pub result-plain : searched xs 0 297 ≡ Nothing → require xs end 0 268 ≡ resultOutcome xs end
+  unfolding resultOutcome
+  result-plain e = resultBy-plain xs end (searched xs 0 268) ∙ rw e
+
+  pub result-experimental : (j : ℕ) → searched xs 0 297 ≡ At j → searched xs 0 268 ≡ Nothing → Pass ≡ resultOutcome xs end
+  unfolding resultOutcome
+  result-experimental j e d = rw (e, d)
+
+  pub result-both : (i j : ℕ) → searched xs 0 297 ≡ At j → searched xs 0 268 ≡ At i
+      → memberFault 5008 (avpIn xs j) ≡ resultOutcome xs end
+  unfolding resultOutcome
+  result-both i j e d = rw (e, d)
+
+  pub no-policy : searched xs 10415 4207 ≡ Nothing → Pass ≡ policiesOutcome xs end
+  unfolding policiesOutcome
+  no-policy e = rw e
+
+  module _ (i : ℕ) (e : searched xs 10415 4207 ≡ At i) where
+    pub policy-unreferenced : (o : Outcome) (v : Verdict) → o ≡ require xs end 10415 4202 → o ≡ Refused v
+        → o ≡ policiesOutcome xs end
+    unfolding policiesOutcome
+    policy-unreferenced o v d r = rw (e, sym d ∙ r) r
+
+    module _ (d : require xs end 10415 4202 ≡ Pass) where
+      pub one-policy : firstFrom (i + 1) 0 1 (drop (i + 1) xs) 10415 4207 ≡ Nothing → Pass ≡ policiesOutcome xs end
+      unfolding policiesOutcome
+      one-policy f = rw (e, d, f)
+
+      pub more-policies : (j : ℕ) → firstFrom (i + 1) 0 1 (drop (i + 1) xs) 10415 4207 ≡ At j
+          → require xs end 10415 2207 ≡ policiesOutcome xs end
+      unfolding policiesOutcome
+      more-policies j f = rw (e, d, f)
+
+-- ---- windows
+
+windowBy-no-start : (xs : List Avp) (s : List ℕ) (end : ℕ) (f : Found) → refused 5005 end 10415 4206 ≡ windowBy xs s end Nothing f
+windowBy-no-start xs s end (At j) = refl
+windowBy-no-start xs s end Nothing = refl
+
+module _ (xs : List Avp) (s : List ℕ) (p depth : ℕ) where
+  pub window-no-start : member xs p depth 10415 4206 ≡ Nothing
+      → refused 5005 (endOf (avpIn xs p)) 10415 4206 ≡ windowOutcome xs s p depth
+  unfolding windowOutcome
+  window-no-start e = windowBy-no-start xs s (endOf (avpIn xs p)) (member xs p depth 10415 4205) ∙ rw e
+
+  module _ (i : ℕ) (e : member xs p depth 10415 4206 ≡ At i) where
+    pub window-no-end : member xs p depth 10415 4205 ≡ Nothing
+        → refused 5005 (endOf (avpIn xs p)) 10415 4205 ≡ windowOutcome xs s p depth
+    unfolding windowOutcome
+    window-no-end d = rw (e, d)
+
+    pub window-both : (j : ℕ) → member xs p depth 10415 4205 ≡ At j → timesBy xs s i j ≡ windowOutcome xs s p depth
+    unfolding windowOutcome
+    window-both j d = rw (e, d)
+
+-- ---- one position after another
+
+pub record Each (each : ℕ → List Avp → Outcome) (at : ℕ → Avp → Outcome) : Type 0 where
+  pub end : (i : ℕ) → each i [] ≡ Pass
+  pub next : (i : ℕ) (a : Avp) (rest : List Avp) → each i (a ∷ rest) ≡ orElse (at i a) (each (i + 1) rest)
+
+pub policies-each : (xs : List Avp) → Each (eachPolicy xs) (policyAt xs)
+unfolding eachPolicy
+policies-each xs = record { end = λ i. refl; next = λ i a rest. refl }
+
+pub windows-each : (xs : List Avp) (s : List ℕ) → Each (eachWindow xs s) (windowAt xs s)
+unfolding eachWindow
+windows-each xs s = record { end = λ i. refl; next = λ i a rest. refl }
+
+-- a rule over all positions that has come to position i
+module _ {each : ℕ → List Avp → Outcome} {at : ℕ → Avp → Outcome} (e : Each each at) (log : List ℕ) (count i : ℕ)
+    (room : count ≤ 256) (left : each i (drop i (avpsIn log count)) ≡ each 0 (avpsIn log count)) where
+  pub passed-all : count ≤ i → Pass ≡ each 0 (avpsIn log count)
+  passed-all h = sym (rw (avps-end log count i room h) (e .end i)) ∙ left
+
+  module _ (h : i < count) (o : Outcome) (p : o ≡ at i (avpOf log i)) where
+    next : orElse o (each (i + 1) (drop (i + 1) (avpsIn log count))) ≡ each 0 (avpsIn log count)
+    next =
+        sym (rw (avps-cons log count i room h, p) (e .next i (avpOf log i) (drop (i + 1) (avpsIn log count)))) ∙ left
+
+    pub refused-at : (v : Verdict) → o ≡ Refused v → o ≡ each 0 (avpsIn log count)
+    refused-at v r = r ∙ (rw r at next)
+
+    pub passed-at : o ≡ Pass → each (i + 1) (drop (i + 1) (avpsIn log count)) ≡ each 0 (avpsIn log count)
+    passed-at r = rw r at next

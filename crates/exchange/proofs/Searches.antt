@@ -1,0 +1,69 @@
+-- Laws of a search: a turn looks at the next AVP of the log, and ends with an answer or goes on behind it.
+use mathlib.Core.Path.{_≡_, refl, sym, _∙_}
+use mathlib.Core.Bool.{Bool, true, false}
+use mathlib.Core.List.{List, [], _∷_}
+use Prim.Native.Nat.{ℕ, _+_, _≤_, _<_}
+use native.Mathlib.Omega.{arith}
+use borrow.Author.Tests.{eq-eqb, ne-eqb}
+use lib.Dec.{eqb}
+use lib.ListN.{drop}
+use Rattle.rules.specs.declared.Avp.{Avp}
+use Rattle.rules.specs.declared.Found.{Found}
+use Rattle.rules.specs.declared.Found.the-variants.{At, Nothing}
+use Rattle.rules.specs.Avp.{named}
+use Rattle.rules.specs.Exchange.{firstFrom}
+use Rattle.rules.proofs.Searches.{first-above, first-here, first-later, first-none}
+use Rattle.log.specs.Log.{avpOf, avpsIn}
+use Rattle.log.proofs.Log.{avps-cons, avps-end}
+use Rattle.exchange.specs.Positions.{IsFound, isAt}
+
+-- ---- the name of an AVP
+
+module _ (a : Avp) (vendor code : ℕ) where
+  pub other-vendor : (a .vendor ≡ vendor → ⊥) → false ≡ named a vendor code
+  other-vendor h = rw (ne-eqb (a .vendor) vendor h)
+
+  pub by-code : a .vendor ≡ vendor → eqb (a .code) code ≡ named a vendor code
+  by-code e = rw (eq-eqb (a .vendor) vendor e)
+
+  pub other-depth : (depth : ℕ) → (a .depth ≡ depth → ⊥) → false ≡ isAt a depth vendor code
+  other-depth depth h = rw (ne-eqb (a .depth) depth h)
+
+  pub by-name : (depth : ℕ) → a .depth ≡ depth → named a vendor code ≡ isAt a depth vendor code
+  by-name depth e = rw (eq-eqb (a .depth) depth e)
+
+-- ---- the answer
+
+found-at : (f : Found) (count i : ℕ) → i < count → f ≡ At i → IsFound f count (At i)
+found-at f count i h e = record { is = sym e; used = λ j p. let q : i ≡ j = cc in omega arith }
+
+found-nothing : (f : Found) (count : ℕ) → f ≡ Nothing → IsFound f count Nothing
+found-nothing f count e = record { is = sym e; used = λ j p. let z : _≡_ {A = ℕ} 0 1 = cc in absurd (omega arith) }
+
+-- what a search from a position of the log on gives
+abbrev pub firstIn : List ℕ → ℕ → ℕ → ℕ → ℕ → ℕ → ℕ → Found
+firstIn log count floor depth vendor code i = firstFrom i floor depth (drop i (avpsIn log count)) vendor code
+
+-- a search from `from` on that has come to position i
+module _ (log : List ℕ) (count floor depth vendor code from i : ℕ) (room : count ≤ 256)
+    (left : firstIn log count floor depth vendor code i ≡ firstIn log count floor depth vendor code from) where
+  pub found-end : count ≤ i → IsFound (firstIn log count floor depth vendor code from) count Nothing
+  found-end h = found-nothing _ count (sym left ∙ rw (avps-end log count i room h) (first-none i floor depth vendor code))
+
+  module _ (a : Avp) (e : a ≡ avpOf log i) (h : i < count) where
+    next : firstIn log count floor depth vendor code from
+        ≡ firstFrom i floor depth (a ∷ drop (i + 1) (avpsIn log count)) vendor code
+    next = sym left ∙ rw (avps-cons log count i room h, e)
+
+    pub found-above : a .depth < floor → IsFound (firstIn log count floor depth vendor code from) count Nothing
+    found-above k = found-nothing _ count (next ∙ first-above i floor depth a (drop (i + 1) (avpsIn log count)) vendor code k)
+
+    module _ (k : floor ≤ a .depth) (b : Bool) (t : b ≡ isAt a depth vendor code) where
+      pub found-here : b ≡ true → IsFound (firstIn log count floor depth vendor code from) count (At i)
+      found-here p =
+          found-at _ count i h (next ∙ first-here i floor depth a (drop (i + 1) (avpsIn log count)) vendor code k (sym t ∙ p))
+
+      pub left-later : b ≡ false
+          → firstIn log count floor depth vendor code (i + 1) ≡ firstIn log count floor depth vendor code from
+      left-later p =
+          sym (next ∙ first-later i floor depth a (drop (i + 1) (avpsIn log count)) vendor code k (sym t ∙ p))

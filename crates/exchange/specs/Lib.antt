@@ -1,0 +1,2 @@
+-- What the private functions promise beside the definitions of document 01.
+pub mod Positions

@@ -1,0 +1,136 @@
+// 01, Exchange rules of an answer: its result, and its transfer policies.
+ghost use mathlib.Core.Path.{_≡_};
+ghost use Prim.Native.Nat.{_≤_};
+ghost use Rattle.rules.specs.Exchange.{resultOutcome, policiesOutcome, policyOutcome, eachPolicy, answerOutcome};
+ghost use Rattle.log.specs.Log.{avpOf, avpsIn};
+ghost use Rattle.exchange.specs.Positions.{Position, heldBy, policyAt};
+use crate::search::end_at;
+use crate::search::first;
+use crate::search::is_at;
+use crate::search::member;
+use crate::search::require;
+use crate::search::search;
+use avp::member_fault;
+use avp::refusal;
+use rules::Found;
+use rules::Outcome;
+use rules::kinds::ExperimentalResult;
+use rules::kinds::PcrfAddress;
+use rules::kinds::RatingGroup;
+use rules::kinds::ReferenceId;
+use rules::kinds::ResultCode;
+use rules::kinds::TimeWindow;
+use rules::kinds::TransferPolicy;
+
+// Result-Code or Experimental-Result, and not both.
+fn result_outcome(log: &[u32; 1792], count: usize, end: u32) -> Outcome
+    requires { ⌜ count ≤ 256 ⌝ }
+    ensures { λ r. ⌜ r ≡ resultOutcome (avpsIn (now (log .entry)) count) end ⌝ }
+{
+    let Found::At(i) = search(
+        log,
+        count,
+        ExperimentalResult::VENDOR,
+        ExperimentalResult::CODE,
+    ) else {
+        return require(log, count, end, ResultCode::VENDOR, ResultCode::CODE);
+    };
+    let Found::At(_) = search(log, count, ResultCode::VENDOR, ResultCode::CODE) else {
+        return Outcome::Pass;
+    };
+    member_fault(5008, log::get(log, i))
+}
+
+// With any policy a Reference-Id, with two or more a PCRF-Address.
+fn policies_outcome(log: &[u32; 1792], count: usize, end: u32) -> Outcome
+    requires { ⌜ count ≤ 256 ⌝ }
+    ensures { λ r. ⌜ r ≡ policiesOutcome (avpsIn (now (log .entry)) count) end ⌝ }
+{
+    let Found::At(i) = search(log, count, TransferPolicy::VENDOR, TransferPolicy::CODE) else {
+        return Outcome::Pass;
+    };
+    let reference = require(log, count, end, ReferenceId::VENDOR, ReferenceId::CODE);
+    let Outcome::Pass = reference else {
+        return reference;
+    };
+    let Found::At(_) = first(
+        log,
+        i + 1,
+        count,
+        0,
+        1,
+        TransferPolicy::VENDOR,
+        TransferPolicy::CODE,
+    ) else {
+        return Outcome::Pass;
+    };
+    require(log, count, end, PcrfAddress::VENDOR, PcrfAddress::CODE)
+}
+
+// An AVP that the policy at a position must hold.
+fn held(log: &[u32; 1792], i: usize, count: usize, vendor: u32, code: u32) -> Outcome
+    requires { ⌜ Position i count ⌝ }
+    ensures { λ r. ⌜ r ≡ heldBy (avpsIn (now (log .entry)) count) i vendor code ⌝ }
+{
+    let Found::At(_) = member(log, i, count, 2, vendor, code) else {
+        return refusal(5005, end_at(log, i, count), vendor, code);
+    };
+    Outcome::Pass
+}
+
+fn policy_outcome(log: &[u32; 1792], i: usize, count: usize) -> Outcome
+    requires { ⌜ Position i count ⌝ }
+    ensures { λ r. ⌜ r ≡ policyOutcome (avpsIn (now (log .entry)) count) i ⌝ }
+{
+    let window = held(log, i, count, TimeWindow::VENDOR, TimeWindow::CODE);
+    let Outcome::Pass = window else {
+        return window;
+    };
+    held(log, i, count, RatingGroup::VENDOR, RatingGroup::CODE)
+}
+
+// What is said at a position: of a policy of the command's own list its outcome.
+fn policy_at(log: &[u32; 1792], i: usize, count: usize) -> Outcome
+    requires { ⌜ Position i count ⌝ }
+    ensures { λ r. ⌜ r ≡ policyAt (avpsIn (now (log .entry)) count) i (avpOf (now (log .entry)) i) ⌝ }
+{
+    if is_at(
+        log::get(log, i),
+        1,
+        TransferPolicy::VENDOR,
+        TransferPolicy::CODE,
+    ) {
+        return policy_outcome(log, i, count);
+    }
+    Outcome::Pass
+}
+
+fn each_policy(log: &[u32; 1792], count: usize) -> Outcome
+    requires { ⌜ count ≤ 256 ⌝ }
+    ensures { λ r. ⌜ r ≡ eachPolicy (avpsIn (now (log .entry)) count) 0 (avpsIn (now (log .entry)) count) ⌝ }
+{
+    let mut i = 0;
+    while i < count {
+        let outcome = policy_at(log, i, count);
+        let Outcome::Pass = outcome else {
+            return outcome;
+        };
+        i += 1;
+    }
+    Outcome::Pass
+}
+
+pub(crate) fn answer_outcome(log: &[u32; 1792], count: usize, end: u32) -> Outcome
+    requires { ⌜ count ≤ 256 ⌝ }
+    ensures { λ r. ⌜ r ≡ answerOutcome (avpsIn (now (log .entry)) count) end ⌝ }
+{
+    let result = result_outcome(log, count, end);
+    let Outcome::Pass = result else {
+        return result;
+    };
+    let policies = policies_outcome(log, count, end);
+    let Outcome::Pass = policies else {
+        return policies;
+    };
+    each_policy(log, count)
+}

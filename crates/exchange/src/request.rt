@@ -1,0 +1,130 @@
+// 01, Exchange rules of a request, by its Transfer-Request-Type.
+ghost use mathlib.Core.Path.{_≡_};
+ghost use Prim.Native.Nat.{_≤_};
+ghost use Rattle.rules.specs.Exchange.{volume as volumeOf, firstRequest, laterRequest, byRequestType, requestOutcome};
+ghost use Rattle.log.specs.Log.{avpsIn};
+use crate::search::number_of;
+use crate::search::require;
+use crate::search::search;
+use avp::refusal;
+use rules::Found;
+use rules::Outcome;
+use rules::kinds::ApplicationServiceProviderIdentity;
+use rules::kinds::CcInputOctets;
+use rules::kinds::CcOutputOctets;
+use rules::kinds::CcTotalOctets;
+use rules::kinds::DestinationHost;
+use rules::kinds::NumberOfUes;
+use rules::kinds::ReferenceId;
+use rules::kinds::TimeWindow;
+use rules::kinds::TransferPolicyId;
+use rules::kinds::TransferRequestType;
+
+// One of three is enough; where none is there, CC-Output-Octets is missing.
+fn volume(log: &[u32; 1792], count: usize, end: u32) -> Outcome
+    requires { ⌜ count ≤ 256 ⌝ }
+    ensures { λ r. ⌜ r ≡ volumeOf (avpsIn (now (log .entry)) count) end ⌝ }
+{
+    let input = search(log, count, CcInputOctets::VENDOR, CcInputOctets::CODE);
+    if let Found::At(_) = input {
+        return Outcome::Pass;
+    }
+    let total = search(log, count, CcTotalOctets::VENDOR, CcTotalOctets::CODE);
+    if let Found::At(_) = total {
+        return Outcome::Pass;
+    }
+    require(
+        log,
+        count,
+        end,
+        CcOutputOctets::VENDOR,
+        CcOutputOctets::CODE,
+    )
+}
+
+// Transfer-Request-Type 0: the first request of a transfer.
+fn first_request(log: &[u32; 1792], count: usize, end: u32) -> Outcome
+    requires { ⌜ count ≤ 256 ⌝ }
+    ensures { λ r. ⌜ r ≡ firstRequest (avpsIn (now (log .entry)) count) end ⌝ }
+{
+    let provider = require(
+        log,
+        count,
+        end,
+        ApplicationServiceProviderIdentity::VENDOR,
+        ApplicationServiceProviderIdentity::CODE,
+    );
+    let Outcome::Pass = provider else {
+        return provider;
+    };
+    let octets = volume(log, count, end);
+    let Outcome::Pass = octets else {
+        return octets;
+    };
+    let number = require(log, count, end, NumberOfUes::VENDOR, NumberOfUes::CODE);
+    let Outcome::Pass = number else {
+        return number;
+    };
+    require(log, count, end, TimeWindow::VENDOR, TimeWindow::CODE)
+}
+
+// Transfer-Request-Type 1: the policy is chosen.
+fn later_request(log: &[u32; 1792], count: usize, end: u32) -> Outcome
+    requires { ⌜ count ≤ 256 ⌝ }
+    ensures { λ r. ⌜ r ≡ laterRequest (avpsIn (now (log .entry)) count) end ⌝ }
+{
+    let reference = require(log, count, end, ReferenceId::VENDOR, ReferenceId::CODE);
+    let Outcome::Pass = reference else {
+        return reference;
+    };
+    let policy = require(
+        log,
+        count,
+        end,
+        TransferPolicyId::VENDOR,
+        TransferPolicyId::CODE,
+    );
+    let Outcome::Pass = policy else {
+        return policy;
+    };
+    require(
+        log,
+        count,
+        end,
+        DestinationHost::VENDOR,
+        DestinationHost::CODE,
+    )
+}
+
+fn by_request_type(log: &[u32; 1792], count: usize, end: u32, value: u32) -> Outcome
+    requires { ⌜ count ≤ 256 ⌝ }
+    ensures { λ r. ⌜ r ≡ byRequestType (avpsIn (now (log .entry)) count) end value ⌝ }
+{
+    if value == 0 {
+        return first_request(log, count, end);
+    }
+    if value == 1 {
+        return later_request(log, count, end);
+    }
+    Outcome::Pass
+}
+
+pub(crate) fn request_outcome(s: &[u8], log: &[u32; 1792], count: usize, end: u32) -> Outcome
+    requires { ⌜ count ≤ 256 ⌝ }
+    ensures { λ r. ⌜ r ≡ requestOutcome (avpsIn (now (log .entry)) count) (now (s .entry)) end ⌝ }
+{
+    let Found::At(i) = search(
+        log,
+        count,
+        TransferRequestType::VENDOR,
+        TransferRequestType::CODE,
+    ) else {
+        return refusal(
+            5005,
+            end,
+            TransferRequestType::VENDOR,
+            TransferRequestType::CODE,
+        );
+    };
+    by_request_type(log, count, end, number_of(s, log, i, count))
+}

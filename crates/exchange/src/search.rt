@@ -1,0 +1,109 @@
+// Searches among the AVPs of a log, each in one pass, and what is read at a position that was found.
+ghost use mathlib.Core.Path.{_≡_};
+ghost use Prim.Native.Nat.{_≤_};
+ghost use lib.ListN.{drop};
+ghost use Rattle.rules.specs.Octets.{numberAt, IsNumber};
+ghost use Rattle.rules.specs.Avp.{endOf};
+ghost use Rattle.rules.specs.Exchange.{avpIn, firstFrom};
+ghost use Rattle.rules.specs.Exchange.{search as searched, member as memberOf, require as requireIn};
+ghost use Rattle.log.specs.Log.{avpsIn};
+ghost use Rattle.exchange.specs.Positions.{Position, IsFound, isAt};
+use avp::is_named;
+use avp::refusal;
+use rules::Avp;
+use rules::Found;
+use rules::Outcome;
+
+pub(crate) fn wide(x: u32) -> usize
+    ensures { λ r. ⌜ IsNumber 4 x r ⌝ }
+{
+    x as usize
+}
+
+// Whether an AVP stands at a depth with a vendor and code.
+pub(crate) fn is_at(a: Avp, depth: usize, vendor: u32, code: u32) -> bool
+    ensures { λ r. ⌜ r ≡ isAt a depth vendor code ⌝ }
+{
+    if wide(a.depth) != depth {
+        return false;
+    }
+    is_named(a, vendor, code)
+}
+
+// The first AVP from a position on at a depth with a vendor and code, before any AVP above the depth `floor`.
+pub(crate) fn first(
+    log: &[u32; 1792],
+    from: usize,
+    count: usize,
+    floor: usize,
+    depth: usize,
+    vendor: u32,
+    code: u32,
+) -> Found
+    requires { ⌜ count ≤ 256 ⌝ }
+    ensures { λ r. ⌜ IsFound (firstFrom from floor depth (drop from (avpsIn (now (log .entry)) count)) vendor code) count r ⌝ }
+{
+    let mut i = from;
+    while i < count {
+        let a = log::get(log, i);
+        if wide(a.depth) < floor {
+            return Found::Nothing;
+        }
+        if is_at(a, depth, vendor, code) {
+            return Found::At(i);
+        }
+        i += 1;
+    }
+    Found::Nothing
+}
+
+// The first AVP of the command's own list with a vendor and code.
+pub(crate) fn search(log: &[u32; 1792], count: usize, vendor: u32, code: u32) -> Found
+    requires { ⌜ count ≤ 256 ⌝ }
+    ensures { λ r. ⌜ IsFound (searched (avpsIn (now (log .entry)) count) vendor code) count r ⌝ }
+{
+    first(log, 0, count, 0, 1, vendor, code)
+}
+
+// The first member with a vendor and code of the group at a position, whose members stand at this depth.
+pub(crate) fn member(
+    log: &[u32; 1792],
+    i: usize,
+    count: usize,
+    depth: usize,
+    vendor: u32,
+    code: u32,
+) -> Found
+    requires { ⌜ Position i count ⌝ }
+    ensures { λ r. ⌜ IsFound (memberOf (avpsIn (now (log .entry)) count) i depth vendor code) count r ⌝ }
+{
+    first(log, i + 1, count, depth, depth, vendor, code)
+}
+
+// An AVP that the command's own list must have; `end` is the list's end.
+pub(crate) fn require(log: &[u32; 1792], count: usize, end: u32, vendor: u32, code: u32) -> Outcome
+    requires { ⌜ count ≤ 256 ⌝ }
+    ensures { λ r. ⌜ r ≡ requireIn (avpsIn (now (log .entry)) count) end vendor code ⌝ }
+{
+    let Found::At(_) = search(log, count, vendor, code) else {
+        return refusal(5005, end, vendor, code);
+    };
+    Outcome::Pass
+}
+
+// The end of the data of the AVP at a position.
+pub(crate) fn end_at(log: &[u32; 1792], i: usize, count: usize) -> u32
+    requires { ⌜ Position i count ⌝ }
+    ensures { λ r. ⌜ r ≡ endOf (avpIn (avpsIn (now (log .entry)) count) i) ⌝ }
+{
+    log::data_end(log, i)
+}
+
+// The number in the first four octets of the data of the AVP at a position.
+pub(crate) fn number_of(s: &[u8], log: &[u32; 1792], i: usize, count: usize) -> u32
+    requires { ⌜ Position i count ⌝ }
+    ensures { λ r. ⌜ r ≡ numberAt 4 (now (s .entry)) (avpIn (avpsIn (now (log .entry)) count) i .start) ⌝ }
+{
+    let a = log::get(log, i);
+    octets::number4(s, wide(a.start))
+}
