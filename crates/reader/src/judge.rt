@@ -1,0 +1,62 @@
+// 01, Order of checks: header, walk, rows, exchange rules and windows; the first that applies is the answer.
+ghost use mathlib.Core.Path.{_≡_};
+ghost use Prim.Native.Nat.{_≤_};
+ghost use lib.ListN.{length};
+ghost use Rattle.rules.specs.Command.{commandGrammar, listsOutcome};
+ghost use Rattle.log.specs.Log.{avpsIn};
+ghost use Rattle.reader.specs.Promise.{IsJudged};
+use crate::Judgement;
+use crate::header;
+use rules::Grammar;
+use rules::Outcome;
+use walk::Walk;
+
+// The rows of a command go by R.
+fn command_grammar(flags: u8) -> Grammar
+    ensures { λ r. ⌜ r ≡ commandGrammar flags ⌝ }
+{
+    let r = flags / 128 % 2;
+    if r == 1 {
+        return Grammar::Request;
+    }
+    Grammar::Answer
+}
+
+// Rows and exchange rules over the AVPs of a log.
+fn lists_outcome(s: &[u8], log: &[u32; 1792], count: usize) -> Outcome
+    requires { ⌜ (20 ≤ length (now s)) × (length (now s) ≤ 16384) ⌝ }
+    ensures { λ r. ⌜ r ≡ listsOutcome (now (s .entry)) (avpsIn (now (log .entry)) count) ⌝ }
+{
+    let flags = s[4];
+    let end = s.len() as u32;
+    let rows = rows::judge(log, count, command_grammar(flags), end);
+    let Outcome::Pass = rows else {
+        return rows;
+    };
+    let r = flags / 128 % 2;
+    exchange::judge(r == 1, s, log, count, end)
+}
+
+// A command judged into a lent log.
+pub(crate) fn judge(s: &[u8], log: &mut [u32; 1792]) -> Judgement
+    ensures { λ r. ⌜ IsJudged (now (s .entry)) (now (log .entry)) r (now (log .exit)) ⌝ }
+{
+    let header = header::header_outcome(s);
+    let Outcome::Pass = header else {
+        return Judgement {
+            outcome: header,
+            count: 0,
+        };
+    };
+    let walked = walk::walk_command(s, log);
+    match walked {
+        Walk::Stopped(v) => Judgement {
+            outcome: Outcome::Refused(v),
+            count: 0,
+        },
+        Walk::Whole(count) => Judgement {
+            outcome: lists_outcome(s, log, count),
+            count,
+        },
+    }
+}

@@ -1,0 +1,65 @@
+// The reader of commands: the verdict and the record of a slice of octets, the data of a position, and the search.
+ghost use mathlib.Core.Path.{_≡_};
+ghost use Rattle.rules.specs.Verdict.{verdict};
+ghost use Rattle.rules.specs.Record.{reading};
+ghost use Rattle.reader.specs.Promise.{Judged};
+use rules::Outcome;
+use rules::Reading;
+use rules::Verdict;
+
+mod header;
+mod judge;
+mod record;
+
+pub use record::data;
+pub use record::search;
+
+// What judging a command gives: the outcome of its checks, and for an accepted one how many AVPs stand in the log.
+pub struct Judgement {
+    pub outcome: Outcome,
+    pub count: usize,
+}
+
+// Accepted: number, place, vendor and code 0.
+fn accepted() -> Verdict
+    ensures { λ r. ⌜ r ≡ verdict 0 0 0 0 ⌝ }
+{
+    Verdict {
+        number: 0,
+        place: 0,
+        vendor: 0,
+        code: 0,
+    }
+}
+
+// The verdict of a command. The lent log is written anew from position 0 on, and makes a record needless.
+pub fn verdict(s: &[u8], log: &mut [u32; 1792]) -> Verdict
+    ensures { λ r. ⌜ Judged (now (s .entry)) (now (log .entry)) r (now (log .exit)) ⌝ }
+{
+    let judged = judge::judge(s, log);
+    let outcome = judged.outcome;
+    match outcome {
+        Outcome::Pass => accepted(),
+        Outcome::Refused(v) => v,
+    }
+}
+
+// The verdict of a command and its record, the empty one with a refusal.
+pub fn read(s: &[u8]) -> Reading
+    ensures { λ r. ⌜ r ≡ reading (now (s .entry)) ⌝ }
+{
+    let mut log = [0u32; 1792];
+    let judged = judge::judge(s, &mut log);
+    let outcome = judged.outcome;
+    let count = judged.count;
+    match outcome {
+        Outcome::Pass => Reading {
+            verdict: accepted(),
+            record: record::record_of(s, &log, count),
+        },
+        Outcome::Refused(v) => Reading {
+            verdict: v,
+            record: record::empty_record(),
+        },
+    }
+}

@@ -1,0 +1,140 @@
+// 01, The record: the record of an accepted command, the empty record, the data of a position, and the search.
+ghost use mathlib.Core.Path.{_≡_};
+ghost use Prim.Native.Nat.{_≤_};
+ghost use mathlib.Core.Bool.{_&&_};
+ghost use lib.Dec.{eqb};
+ghost use lib.ListN.{length, replicate};
+ghost use Rattle.rules.specs.Exchange.{blank};
+ghost use Rattle.rules.specs.Avp.{named};
+ghost use Rattle.rules.specs.Record.{inRoom, recordOf, emptyRecord, dataAt, searchRecord};
+ghost use Rattle.log.specs.Log.{avpsIn};
+use rules::Avp;
+use rules::Found;
+use rules::Record;
+use rules::limits;
+
+fn blank_avp() -> Avp
+    ensures { λ r. ⌜ r ≡ blank ⌝ }
+{
+    Avp {
+        depth: 0,
+        vendor: 0,
+        code: 0,
+        m: false,
+        p: false,
+        start: 0,
+        length: 0,
+    }
+}
+
+// An array of 256 blank places.
+fn blank_avps() -> [Avp; 256]
+    ensures { λ r. ⌜ r ≡ replicate 256 blank ⌝ }
+{
+    let b = blank_avp();
+    [b; 256]
+}
+
+// The AVPs of a log in room for 256.
+fn avps_of(log: &[u32; 1792], count: usize) -> [Avp; 256]
+    requires { ⌜ count ≤ 256 ⌝ }
+    ensures { λ r. ⌜ r ≡ inRoom (avpsIn (now (log .entry)) count) ⌝ }
+{
+    let mut avps = blank_avps();
+    let mut i: usize = 0;
+    while i < count {
+        avps[i] = log::get(log, i);
+        i += 1;
+    }
+    avps
+}
+
+// All numbers 0.
+pub(crate) fn empty_record() -> Record
+    ensures { λ r. ⌜ r ≡ emptyRecord ⌝ }
+{
+    Record {
+        r: false,
+        p: false,
+        e: false,
+        t: false,
+        hop_by_hop: 0,
+        end_to_end: 0,
+        count: 0,
+        avps: blank_avps(),
+    }
+}
+
+// The record of a command whose AVPs stand in a log.
+pub(crate) fn record_of(s: &[u8], log: &[u32; 1792], count: usize) -> Record
+    requires { ⌜ (20 ≤ length (now s)) × (count ≤ 256) ⌝ }
+    ensures { λ r. ⌜ r ≡ recordOf (now (s .entry)) (avpsIn (now (log .entry)) count) ⌝ }
+{
+    let flags = s[4];
+    let r = flags / 128 % 2;
+    let p = flags / 64 % 2;
+    let e = flags / 32 % 2;
+    let t = flags / 16 % 2;
+    Record {
+        r: r == 1,
+        p: p == 1,
+        e: e == 1,
+        t: t == 1,
+        hop_by_hop: octets::number4(s, 12),
+        end_to_end: octets::number4(s, 16),
+        count: count as u32,
+        avps: avps_of(log, count),
+    }
+}
+
+fn is_found(a: Avp, vendor: u32, code: u32) -> bool
+    ensures { λ r. ⌜ r ≡ (eqb (a .depth) 1 && named a vendor code) ⌝ }
+{
+    if a.depth != 1 {
+        return false;
+    }
+    if a.vendor != vendor {
+        return false;
+    }
+    a.code == code
+}
+
+// The data of the AVP at a position, as that part of the slice; the empty part at its start where the position is unused or
+// the part does not lie in the slice.
+pub fn data<'a>(record: Record, position: usize, s: &'a [u8]) -> &'a [u8]
+    ensures { λ r. ⌜ now r ≡ dataAt «record» position (now (s .entry)) ⌝ }
+{
+    let count = record.count as usize;
+    if limits::MOST_AVPS <= position {
+        return &s[..0];
+    }
+    if count <= position {
+        return &s[..0];
+    }
+    let a = record.avps[position];
+    let start = a.start as usize;
+    let end = start + a.length as usize;
+    if s.len() < end {
+        return &s[..0];
+    }
+    &s[start..end]
+}
+
+// The position of the first AVP at depth 1 with a vendor and code.
+pub fn search(record: Record, vendor: u32, code: u32) -> Found
+    ensures { λ r. ⌜ r ≡ searchRecord «record» vendor code ⌝ }
+{
+    let count = record.count as usize;
+    let mut i: usize = 0;
+    while i < limits::MOST_AVPS {
+        if count <= i {
+            return Found::Nothing;
+        }
+        let a = record.avps[i];
+        if is_found(a, vendor, code) {
+            return Found::At(i);
+        }
+        i += 1;
+    }
+    Found::Nothing
+}
