@@ -1,0 +1,51 @@
+-- `book::listing` meets its contract.
+use borrow.Author.Needs.{needs}
+use mathlib.Core.Path.{sym, _∙_}
+use Rattle.book.proofs.Turns.{ready, listed, listed-none}
+use Rattle.book.proofs.listing.Statement.{statement}
+use Rattle.book.proofs.listing.Tie as tie
+
+is-book-requires : tie.Need-is-book-requires
+is-book-requires c κs = search needs
+
+slice-aggregate-put-word : tie.Need-slice-aggregate-put-word
+slice-aggregate-put-word c = search needs
+
+put-word-requires : tie.Need-put-word-requires
+put-word-requires c κs = search needs
+
+put-lines-requires : tie.Need-put-lines-requires
+put-lines-requires c κs =
+    let w = c .before .before in
+    let i = w .before .before .before in
+    ready (sym (i .before .is-book .ensures) ∙ i .if1 .taken) (w .put-word .ensures)
+
+returns : tie.Need-returns
+returns c =
+    let w = c .before .before .before in
+    let i = w .before .before .before in
+    listed _ _ (sym (i .before .is-book .ensures) ∙ i .if1 .taken) (w .put-word .ensures) (c .put-lines .ensures)
+
+slice-aggregate-put-word-2 : tie.Need-slice-aggregate-put-word-2
+slice-aggregate-put-word-2 c = search needs
+
+put-word-requires-2 : tie.Need-put-word-requires-2
+put-word-requires-2 c κs = search needs
+
+returns-2 : tie.Need-returns-2
+returns-2 c =
+    let i = c .before .before .before in
+    listed-none _ _ (sym (i .before .is-book .ensures) ∙ i .if1 .left) (c .put-word2 .ensures)
+
+pub listing-spec : {M : Type 1} → statement M
+listing-spec =
+    tie.close
+    (tie.spec
+    is-book-requires
+    slice-aggregate-put-word
+    put-word-requires
+    put-lines-requires
+    returns
+    slice-aggregate-put-word-2
+    put-word-requires-2
+    returns-2)

@@ -1,0 +1,2 @@
+-- What the listing of a book promises.
+pub mod Promise

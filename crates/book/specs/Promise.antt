@@ -1,0 +1,38 @@
+-- What the functions of the listing promise. A listing is text that is put piece by piece into octets that the caller
+-- lends, so every function that puts text makes the same promise of its piece.
+use mathlib.Core.Path.{_≡_}
+use mathlib.Core.List.{List}
+use Prim.Native.Nat.{ℕ, _+_, _≤_}
+use lib.ListN.{length}
+use lib.Seq.{sets}
+use Rattle.rules.specs.Book.{listing, linesFrom, bookHead, longestBook}
+
+-- the octets that the caller lends; no listing is longer
+abbrev pub room : ℕ
+room = 262144
+
+-- the listing of a book: how many octets it has, and these octets from the start on, the rest untouched
+pub record Listed (book before : List ℕ) (r : ℕ) (after : List ℕ) : Type 0 where
+  pub count : r ≡ length (listing book)
+  pub octets : after ≡ sets before 0 (listing book)
+  pub within : r ≤ room
+
+-- text put from a place on: the place behind it, and its octets, the rest untouched
+pub record Put (before : List ℕ) (at : ℕ) (text : List ℕ) (r : ℕ) (after : List ℕ) : Type 0 where
+  pub next : r ≡ at + length text
+  pub octets : after ≡ sets before at text
+
+-- the same, with a bound on the text for the next piece
+pub record PutWithin (most : ℕ) (before : List ℕ) (at : ℕ) (text : List ℕ) (r : ℕ) (after : List ℕ) : Type 0 where
+  pub put : Put before at text r after
+  pub within : r ≤ at + most
+
+-- the lines behind the head line
+abbrev pub linesOf : List ℕ → List ℕ
+linesOf book = linesFrom (length book) book bookHead 0 0
+
+-- a book's length, and the place behind the head line
+pub record Ready (book : List ℕ) (at : ℕ) : Type 0 where
+  pub head : bookHead ≤ length book
+  pub short : length book ≤ longestBook
+  pub place : at ≤ 6

@@ -1,0 +1,55 @@
+// Prints the listing of the book on standard input (01, The book and its listing). It only moves octets: what the listing
+// is, the crate `book` settles.
+ghost use lib.ListN.{length};
+ghost use Rattle.verdicts.specs.Input.{Within};
+use libc::STDERR_FILENO;
+use libc::STDIN_FILENO;
+use libc::STDOUT_FILENO;
+
+// What came in: this many octets up to the end of the input or of the buffer, or a read that failed.
+enum Input {
+    Octets(usize),
+    Failed,
+}
+
+// Reads until the buffer is full or the input ends, in pieces of any size. A read that a signal broke off counts as failed.
+fn read_input(buffer: &mut [u8]) -> Input
+    ensures { λ r. ⌜ Within (length (now (buffer .entry))) r ⌝ }
+{
+    let mut count: usize = 0;
+    while count < buffer.len() {
+        let answer = libc::read(STDIN_FILENO, &mut buffer[count..]);
+        if answer < 0 {
+            return Input::Failed;
+        }
+        let more = io::count(answer, &buffer[count..]);
+        if more == 0 {
+            return Input::Octets(count);
+        }
+        count += more;
+    }
+    Input::Octets(count)
+}
+
+// A listing that could not be written whole lacks at least the end of its last line, and standard error says so.
+fn print_listing(book: &[u8]) {
+    let mut out = [0u8; 262144];
+    let length = book::listing(book, &mut out);
+    if io::write_all(STDOUT_FILENO, &out[..length]) {
+        return;
+    }
+    io::write_all(STDERR_FILENO, b"verdicts: writing failed\n");
+}
+
+// The buffer has room for one octet more than the longest book, so that a longer one is seen to be longer. A read that
+// failed is not the end of the input: no listing follows it.
+fn main() {
+    let mut buffer = [0u8; 65537];
+    let input = read_input(&mut buffer);
+    match input {
+        Input::Octets(count) => print_listing(&buffer[..count]),
+        Input::Failed => {
+            io::write_all(STDERR_FILENO, b"verdicts: reading failed\n");
+        }
+    }
+}
