@@ -1,13 +1,29 @@
-// An AVP of a walk: its name, its place, and refusals at it.
+// An AVP of a walk: its name, its place, and refusals at it; and the blank AVP of an unused place.
 ghost use mathlib.Core.Path.{_≡_};
 ghost use Prim.Native.Nat.{_-_};
 ghost use Rattle.rules.specs.Verdict.{refused};
 ghost use Rattle.rules.specs.Avp.{named, placeOf};
 ghost use Rattle.rules.specs.RowChecks.{memberFault};
+ghost use Rattle.rules.specs.Exchange.{blank};
 use rules::Avp;
 use rules::Outcome;
 use rules::Verdict;
 use rules::kinds::NO_VENDOR;
+
+// All numbers 0: an unused place of the record.
+pub fn blank() -> Avp
+    ensures { λ r. ⌜ r ≡ blank ⌝ }
+{
+    Avp {
+        depth: 0,
+        vendor: 0,
+        code: 0,
+        m: false,
+        p: false,
+        start: 0,
+        length: 0,
+    }
+}
 
 // An AVP is named by vendor and code together.
 pub fn is_named(a: Avp, vendor: u32, code: u32) -> bool

@@ -74,15 +74,7 @@ pub fn get(log: &[u32; 1792], position: usize) -> Avp
     ensures { λ r. ⌜ r ≡ avpOf (now (log .entry)) position ⌝ }
 {
     if 256 <= position {
-        return Avp {
-            depth: 0,
-            vendor: 0,
-            code: 0,
-            m: false,
-            p: false,
-            start: 0,
-            length: 0,
-        };
+        return avp::blank();
     }
     let at = position * 7;
     Avp {

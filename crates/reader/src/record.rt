@@ -13,26 +13,12 @@ use rules::Found;
 use rules::Record;
 use rules::limits;
 
-fn blank_avp() -> Avp
-    ensures { λ r. ⌜ r ≡ blank ⌝ }
-{
-    Avp {
-        depth: 0,
-        vendor: 0,
-        code: 0,
-        m: false,
-        p: false,
-        start: 0,
-        length: 0,
-    }
-}
-
 // An array of 256 blank places.
 fn blank_avps() -> [Avp; 256]
     ensures { λ r. ⌜ r ≡ replicate 256 blank ⌝ }
 {
-    let b = blank_avp();
-    [b; 256]
+    let blank = avp::blank();
+    [blank; 256]
 }
 
 // The AVPs of a log in room for 256.

@@ -1,12 +1,17 @@
 -- `log::get` meets its contract.
-use mathlib.Core.Path.{sym}
 use borrow.Author.Needs.{needs}
+use mathlib.Core.Path.{sym, _∙_}
 use Rattle.log.proofs.Log.{avpOf-out, avpOf-in}
 use Rattle.log.proofs.get.Statement.{statement}
 use Rattle.log.proofs.get.Tie as tie
 
+blank-requires : tie.Need-blank-requires
+blank-requires c κs = search needs
+
 returns : tie.Need-returns
-returns c = sym (avpOf-out (c .before .args .log .now) (c .before .args .position) (c .if1 .taken))
+returns c =
+    let a = c .before .before .args in
+    c .blank .ensures ∙ sym (avpOf-out (a .log .now) (a .position) (c .before .if1 .taken))
 
 mul-at : tie.Need-mul-at
 mul-at c = search needs
@@ -92,6 +97,7 @@ pub get-spec : {M : Type 1} → statement M
 get-spec =
     tie.close
     (tie.spec
+    blank-requires
     returns
     mul-at
     mul-t5

@@ -6,11 +6,11 @@ use Rattle.rules.specs.declared.Avp.{Avp}
 use Rattle.reader.proofs.record.blank_avps.Statement.{statement}
 use Rattle.reader.proofs.record.blank_avps.Tie as tie
 
-blank-avp-requires : tie.Need-blank-avp-requires
-blank-avp-requires c κs = search needs
+blank-requires : tie.Need-blank-requires
+blank-requires c κs = search needs
 
 returns : tie.Need-returns
-returns c = ap (λ (b : Avp). replicate 256 b) (c .blank-avp .ensures)
+returns c = ap (λ (b : Avp). replicate 256 b) (c .blank .ensures)
 
 pub blank-avps-spec : {M : Type 1} → statement M
-blank-avps-spec = tie.close (tie.spec blank-avp-requires returns)
+blank-avps-spec = tie.close (tie.spec blank-requires returns)
