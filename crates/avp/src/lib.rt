@@ -4,7 +4,7 @@ ghost use Prim.Native.Nat.{_-_};
 ghost use Rattle.rules.specs.Verdict.{refused};
 ghost use Rattle.rules.specs.Avp.{named, placeOf};
 ghost use Rattle.rules.specs.RowChecks.{memberFault};
-ghost use Rattle.rules.specs.Exchange.{blank};
+ghost use Rattle.rules.specs.Search.{blank};
 use rules::Avp;
 use rules::Outcome;
 use rules::Verdict;

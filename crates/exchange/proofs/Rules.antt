@@ -13,11 +13,12 @@ use Rattle.rules.specs.Octets.{numberAt}
 use Rattle.rules.specs.Verdict.{refused, orElse}
 use Rattle.rules.specs.Avp.{endOf}
 use Rattle.rules.specs.RowChecks.{memberFault}
-use Rattle.rules.specs.Exchange.{avpIn, firstFrom, search as searched, member, present, require, volume, byRequestType, requestOutcome}
+use Rattle.rules.specs.Search.{avpIn, firstFrom, search as searched, member}
+use Rattle.rules.specs.Exchange.{present, require, volume, byRequestType, requestOutcome}
 use Rattle.rules.specs.Exchange.{resultBy, resultOutcome, policiesOutcome, windowBy, windowOutcome, eachPolicy, eachWindow}
 use Rattle.log.specs.Log.{avpOf, avpsIn}
 use Rattle.log.proofs.Log.{avps-cons, avps-end}
-use Rattle.exchange.specs.Positions.{policyAt, timesBy, windowAt}
+use Rattle.rules.specs.Exchange.{policyAt, timesBy, windowAt}
 
 -- ---- an AVP that must be there
 

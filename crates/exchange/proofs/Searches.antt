@@ -1,7 +1,7 @@
 -- Laws of a search: a turn looks at the next AVP of the log, and ends with an answer or goes on behind it.
-use mathlib.Core.Path.{_≡_, refl, sym, _∙_}
+use mathlib.Core.Path.{_≡_, sym, _∙_}
 use mathlib.Core.Bool.{Bool, true, false}
-use mathlib.Core.List.{List, [], _∷_}
+use mathlib.Core.List.{List, _∷_}
 use Prim.Native.Nat.{ℕ, _+_, _≤_, _<_}
 use native.Mathlib.Omega.{arith}
 use borrow.Author.Tests.{eq-eqb, ne-eqb}
@@ -11,11 +11,12 @@ use Rattle.rules.specs.declared.Avp.{Avp}
 use Rattle.rules.specs.declared.Found.{Found}
 use Rattle.rules.specs.declared.Found.the-variants.{At, Nothing}
 use Rattle.rules.specs.Avp.{named}
-use Rattle.rules.specs.Exchange.{firstFrom}
+use Rattle.rules.specs.Search.{firstFrom}
 use Rattle.rules.proofs.Searches.{first-above, first-here, first-later, first-none}
 use Rattle.log.specs.Log.{avpOf, avpsIn}
 use Rattle.log.proofs.Log.{avps-cons, avps-end}
-use Rattle.exchange.specs.Positions.{IsFound, isAt}
+use Rattle.rules.specs.Search.{isAt}
+use Rattle.exchange.specs.Positions.{IsFound}
 
 -- ---- the name of an AVP
 

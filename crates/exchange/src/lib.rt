@@ -4,7 +4,7 @@ ghost use mathlib.Core.Path.{_≡_};
 ghost use Prim.Native.Nat.{_≤_};
 ghost use Rattle.rules.specs.Exchange.{exchangeOutcome};
 ghost use Rattle.log.specs.Log.{avpsIn};
-ghost use Rattle.exchange.specs.Positions.{byCommand};
+ghost use Rattle.rules.specs.Exchange.{byCommand};
 use rules::Outcome;
 
 mod answer;

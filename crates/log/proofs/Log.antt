@@ -1,10 +1,9 @@
 -- Laws of a log: what a position holds, the AVPs one by one, and that AVPs that were put in are read back.
 use mathlib.Core.Path.{_≡_, refl, sym, ap, _∙_}
-use mathlib.Core.Logic.{_≢_}
 use mathlib.Core.Bool.{Bool, true, false}
 use mathlib.Core.List.{List, [], _∷_, _++_, append-assoc}
 use Prim.Native.Nat.{ℕ, zero, suc, _+_, _-_, _*_, _^_, _≤_, _<_, min}
-use native.Mathlib.Nat.{add-zero, add-suc}
+use native.Mathlib.Nat.{add-zero}
 use native.Mathlib.Numerals.{add-one}
 use native.Mathlib.Omega.{arith}
 use borrow.Author.Tests.{lt-ltb, le-ltb}
@@ -13,7 +12,7 @@ use lib.ListN.{length, getD, set, take, drop, length-set, drop-of-length-le}
 use lib.Seq.{sets, sets-eq, getD-append-add, getD-set-other, getD-drop, length-take-le}
 use Rattle.rules.specs.declared.Avp.{Avp}
 use Rattle.rules.specs.Avp.{endOf}
-use Rattle.rules.specs.Exchange.{blank, avpIn}
+use Rattle.rules.specs.Search.{blank, avpIn}
 use Rattle.log.specs.Log.{bit, numbersAt, putAvp, avpFrom, avpOf, avpsFrom, avpsIn, written}
 
 module _ (log : List ℕ) (i : ℕ) where

@@ -8,7 +8,7 @@ use lib.Dec.{ltb, eqb}
 use Rattle.rules.specs.declared.Avp.{Avp}
 use Rattle.rules.specs.Walk.{mostAvps}
 use Rattle.rules.specs.Avp.{endOf}
-use Rattle.rules.specs.Exchange.{blank}
+use Rattle.rules.specs.Search.{blank}
 
 abbrev pub bit : Bool → ℕ
 bit true = 1

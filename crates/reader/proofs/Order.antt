@@ -1,7 +1,7 @@
 -- A command's checks in order: its header, its walk, its lists; and what is read of it.
 use mathlib.Core.Path.{_≡_, refl, sym, ap, _∙_}
-use mathlib.Core.List.{List, []}
-use Prim.Native.Nat.{ℕ, _+_, _≤_, _<_}
+use mathlib.Core.List.{List}
+use Prim.Native.Nat.{ℕ, _≤_}
 use native.Mathlib.Omega.{arith}
 use borrow.Author.Tests.{le-ltb}
 use lib.ListN.{length}
@@ -10,7 +10,7 @@ use Rattle.rules.specs.declared.Outcome.{Outcome}
 use Rattle.rules.specs.declared.Outcome.the-variants.{Pass, Refused}
 use Rattle.rules.specs.declared.Record.{Record}
 use Rattle.rules.specs.declared.Reading.{Reading}
-use Rattle.rules.specs.Verdict.{verdict, orElse}
+use Rattle.rules.specs.Verdict.{verdict}
 use Rattle.rules.specs.Header.{headerOutcome}
 use Rattle.rules.specs.Walk.{Walked, whole, stopped, avpsOf}
 use Rattle.rules.specs.Command.{walkOf, listsOutcome, walkedOutcome, commandOutcome, commandVerdict}
@@ -22,7 +22,7 @@ use Rattle.log.specs.Log.{avpsIn}
 use Rattle.walk.specs.declared.Walk.{Walk}
 use Rattle.walk.specs.declared.Walk.the-variants.{Whole, Stopped}
 use Rattle.walk.specs.Promise.{answerOf, commandWalk, CommandWalked}
-use Rattle.reader.specs.Promise.{logAfter, IsJudged, Judged}
+use Rattle.reader.specs.Promise.{logAfter, IsJudged}
 
 -- the outcome of a walk, by the answer that it gave
 walked-whole : (s : List ℕ) (w : Walked) (c : ℕ) → Whole c ≡ answerOf 0 w → walkedOutcome s w ≡ listsOutcome s (avpsOf w)

@@ -1,13 +1,13 @@
 -- Laws of the record: places filled one by one, the data of a position, and a search place by place.
 use mathlib.Core.Path.{_≡_, refl, sym, ap, _∙_}
-use mathlib.Core.Bool.{Bool, true, false, _&&_}
+use mathlib.Core.Bool.{true, false, _&&_}
 use mathlib.Core.List.{List, [], _∷_, _++_, map}
 use Prim.Native.Nat.{ℕ, suc, _+_, _-_, _≤_, _<_, min}
 use native.Mathlib.Numerals.{add-one}
 use native.Mathlib.Omega.{arith}
 use borrow.Author.Tests.{lt-ltb, le-ltb, le-leb, lt-leb}
 use lib.Dec.{eqb}
-use lib.ListN.{length, getD, set, take, drop, replicate, drop-of-length-le, length-map}
+use lib.ListN.{length, set, take, drop, replicate, drop-of-length-le, length-map}
 use lib.Seq.{take-suc, take-length, length-take-le, set-at, append-snoc, drop-cons, getD-take}
 use Rattle.rules.specs.declared.Avp.{Avp}
 use Rattle.rules.specs.declared.Record.{Record}
@@ -15,7 +15,7 @@ use Rattle.rules.specs.declared.Found.{Found}
 use Rattle.rules.specs.declared.Found.the-variants.{At, Nothing}
 use Rattle.rules.specs.Header.{commandFlags, hopByHop, endToEnd, isRequest, isProxiable, isError, isRetransmitted}
 use Rattle.rules.specs.Avp.{named}
-use Rattle.rules.specs.Exchange.{blank, avpIn, firstFrom}
+use Rattle.rules.specs.Search.{blank, avpIn, firstFrom}
 use Rattle.rules.specs.Record.{inRoom, recordOf, recorded, dataAt, searchRecord}
 use Rattle.rules.proofs.Searches.{first-here, first-later, first-none}
 

@@ -1,7 +1,6 @@
 // 01, Order of checks, Header: length and version, application and command code, command flags.
 ghost use mathlib.Core.Path.{_≡_};
 ghost use mathlib.Core.Bool.{_&&_};
-ghost use Prim.Native.Nat.{_≤_};
 ghost use lib.ListN.{length};
 ghost use Rattle.rules.specs.Verdict.{refused};
 ghost use Rattle.rules.specs.Header.{isRequest, isError, lengthOutcome, applicationOutcome, flagsOutcome, headerOutcome};

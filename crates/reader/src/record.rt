@@ -4,7 +4,7 @@ ghost use Prim.Native.Nat.{_≤_};
 ghost use mathlib.Core.Bool.{_&&_};
 ghost use lib.Dec.{eqb};
 ghost use lib.ListN.{length, replicate};
-ghost use Rattle.rules.specs.Exchange.{blank};
+ghost use Rattle.rules.specs.Search.{blank};
 ghost use Rattle.rules.specs.Avp.{named};
 ghost use Rattle.rules.specs.Record.{inRoom, recordOf, emptyRecord, dataAt, searchRecord};
 ghost use Rattle.log.specs.Log.{avpsIn};

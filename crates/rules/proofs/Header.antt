@@ -1,14 +1,13 @@
 -- Laws of the header's checks, case by case.
-use mathlib.Core.Path.{_≡_, refl, sym, ap, _∙_}
-use mathlib.Core.Bool.{Bool, true, false, _&&_, not}
+use mathlib.Core.Path.{_≡_, sym, _∙_}
+use mathlib.Core.Bool.{true, false, _&&_}
 use mathlib.Core.List.{List}
 use Prim.Native.Nat.{ℕ, _%_, _≤_, _<_}
 use native.Mathlib.Omega.{arith}
 use borrow.Author.Tests.{lt-ltb, le-ltb, eq-eqb, ne-eqb, ltb-true, ltb-false, eqb-true, eqb-false}
 use lib.Dec.{ltb, eqb}
 use lib.ListN.{length}
-use Rattle.rules.specs.declared.Outcome.{Outcome}
-use Rattle.rules.specs.declared.Outcome.the-variants.{Pass, Refused}
+use Rattle.rules.specs.declared.Outcome.the-variants.{Pass}
 use Rattle.rules.specs.Verdict.{refused, orElse}
 use Rattle.rules.specs.Header.{version, lengthField, commandCode, application, isRequest, isProxiable, isError, lengthOutcome, applicationOutcome, flagsOutcome, headerOutcome, commandFlags}
 use Rattle.rules.proofs.Outcomes.{both-pass}

@@ -1,13 +1,12 @@
 -- Laws of the walk's definitions, case by case: the checks of an AVP, one AVP, and the list. They hold for every dictionary.
-use mathlib.Core.Path.{_≡_, refl, sym, ap, _∙_}
+use mathlib.Core.Path.{_≡_, refl, sym, _∙_}
 use mathlib.Core.Bool.{Bool, true, false, cond}
 use mathlib.Core.List.{List, [], _∷_, _++_, append-assoc}
-use Prim.Native.Nat.{ℕ, zero, suc, _+_, _-_, _%_, _≤_, _<_}
-use native.Mathlib.Nat.{add-assoc}
+use Prim.Native.Nat.{ℕ, zero, suc, _+_, _-_, _≤_, _<_}
 use native.Mathlib.Omega.{arith}
 use borrow.Author.Tests.{lt-ltb, le-ltb, le-leb, lt-leb, ltb-false, leb-false}
-use lib.Dec.{ltb, leb, eqb}
-use lib.ListN.{length, length-append}
+use lib.Dec.{ltb}
+use lib.ListN.{length}
 use Rattle.rules.specs.declared.Avp.{Avp}
 use Rattle.rules.specs.declared.Verdict.{Verdict}
 use Rattle.rules.specs.declared.Outcome.{Outcome}
@@ -17,9 +16,9 @@ use Rattle.rules.specs.declared.Checked.the-variants.{Fault, Plain, Grou
 use Rattle.rules.specs.declared.Definition.{Definition}
 use Rattle.rules.specs.Octets.{numberAt, padded}
 use Rattle.rules.specs.Verdict.{verdict, refused}
-use Rattle.rules.specs.Avp.{codeAt, flagsAt, flagV, lengthAt, headerOf, nextAt, avpAt}
+use Rattle.rules.specs.Avp.{codeAt, flagsAt, flagV, lengthAt, nextAt, avpAt}
 use Rattle.rules.specs.Dictionary.{Entry, defined, isGroup}
-use Rattle.rules.specs.Walk.{framedBy, framing, wrongFlags, unsupported, wrongWidth, wrongValue, tooDeep, contents, settled, checkedAvp, checked, Walked, whole, stopped, avpsOf, after, andThen, entered, walkAvp, walkList}
+use Rattle.rules.specs.Walk.{framedBy, framing, wrongFlags, unsupported, wrongWidth, wrongValue, tooDeep, contents, settled, checkedAvp, checked, Walked, whole, stopped, avpsOf, after, andThen, walkAvp, walkList}
 
 -- a test holds or it does not
 pub by-cases : {C : Type 0} (b : Bool) → (b ≡ true → C) → (b ≡ false → C) → C

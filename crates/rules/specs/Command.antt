@@ -1,12 +1,12 @@
 -- 01, Order of checks: header, walk, rows, exchange rules, windows; the first that applies is the answer.
 use Prim.Native.Nat.{ℕ}
 use mathlib.Core.List.{List}
-use mathlib.Core.Bool.{Bool, cond}
+use mathlib.Core.Bool.{cond}
 use lib.ListN.{length}
 use Rattle.rules.specs.declared.Avp.{Avp}
 use Rattle.rules.specs.declared.Verdict.{Verdict}
 use Rattle.rules.specs.declared.Outcome.{Outcome}
-use Rattle.rules.specs.declared.Outcome.the-variants.{Pass, Refused}
+use Rattle.rules.specs.declared.Outcome.the-variants.{Refused}
 use Rattle.rules.specs.declared.Grammar.{Grammar}
 use Rattle.rules.specs.declared.Grammar.the-variants.{Request, Answer}
 use Rattle.rules.specs.Verdict.{orElse, verdictOf}

@@ -1,6 +1,6 @@
 -- 01, Dictionary: its entries, and the search for a name.
 use Prim.Native.Nat.{ℕ}
-use mathlib.Core.List.{List, [], _∷_, _++_, map}
+use mathlib.Core.List.{List, [], _∷_, _++_}
 use mathlib.Core.Bool.{Bool, true, false, cond, _&&_}
 use lib.Dec.{eqb}
 use Rattle.rules.specs.declared.Avp.{Avp}

@@ -2,41 +2,19 @@
 -- `end` is the end of the command's own list.
 use Prim.Native.Nat.{ℕ, _+_}
 use mathlib.Core.List.{List, [], _∷_}
-use mathlib.Core.Bool.{Bool, cond, _&&_}
-use lib.ListN.{getD, drop}
+use mathlib.Core.Bool.{Bool, cond}
+use lib.ListN.{drop}
 use lib.Dec.{ltb, eqb}
 use Rattle.rules.specs.declared.Avp.{Avp}
 use Rattle.rules.specs.declared.Outcome.{Outcome}
-use Rattle.rules.specs.declared.Outcome.the-variants.{Pass, Refused}
+use Rattle.rules.specs.declared.Outcome.the-variants.{Pass}
 use Rattle.rules.specs.declared.Found.{Found}
 use Rattle.rules.specs.declared.Found.the-variants.{At, Nothing}
 use Rattle.rules.specs.Octets.{numberAt}
-use Rattle.rules.specs.Verdict.{refused, refuseIf, orElse}
-use Rattle.rules.specs.Avp.{named, placeOf, endOf}
+use Rattle.rules.specs.Verdict.{refused, orElse}
+use Rattle.rules.specs.Avp.{named, endOf}
 use Rattle.rules.specs.RowChecks.{memberFault}
-
--- all numbers 0
-abbrev pub blank : Avp
-blank = record { depth = 0; vendor = 0; code = 0; m = Bool.false; p = Bool.false; start = 0; length = 0 }
-
--- the AVP at a position
-abbrev pub avpIn : List Avp → ℕ → Avp
-avpIn xs i = getD xs i blank
-
--- the position, counted from i, of the first AVP at a depth with a vendor and code, before any AVP above the depth `floor`
-unfoldable pub firstFrom : ℕ → ℕ → ℕ → List Avp → ℕ → ℕ → Found
-firstFrom i floor depth [] vendor code = Nothing
-firstFrom i floor depth (a ∷ xs) vendor code =
-    cond (ltb (a .depth) floor) Nothing
-    (cond (eqb (a .depth) depth && named a vendor code) (At i) (firstFrom (i + 1) floor depth xs vendor code))
-
--- a search gives the first AVP at depth 1 with a vendor and code
-abbrev pub search : List Avp → ℕ → ℕ → Found
-search xs vendor code = firstFrom 0 0 1 xs vendor code
-
--- the first member of the group at position i, whose members stand at this depth
-abbrev pub member : List Avp → ℕ → ℕ → ℕ → ℕ → Found
-member xs i depth vendor code = firstFrom (i + 1) depth depth (drop (i + 1) xs) vendor code
+use Rattle.rules.specs.Search.{avpIn, isAt, firstFrom, search, member}
 
 -- none is 5005 at the end of the list that lacks it
 abbrev pub present : ℕ → ℕ → ℕ → Found → Outcome
@@ -100,17 +78,23 @@ policiesBy xs end Nothing = Pass
 unfoldable pub policiesOutcome : List Avp → ℕ → Outcome
 policiesOutcome xs end = policiesBy xs end (search xs 10415 4207)
 
--- the 4207 at position i holds 4204, then 432, else 5005 at its own end
+-- the 4207 at position i holds an AVP, else 5005 at its own end
+abbrev pub heldBy : List Avp → ℕ → ℕ → ℕ → Outcome
+heldBy xs i vendor code = present (endOf (avpIn xs i)) vendor code (member xs i 2 vendor code)
+
+-- it holds 4204, then 432
 unfoldable pub policyOutcome : List Avp → ℕ → Outcome
-policyOutcome xs i =
-    orElse (present (endOf (avpIn xs i)) 10415 4204 (member xs i 2 10415 4204))
-    (present (endOf (avpIn xs i)) 0 432 (member xs i 2 0 432))
+policyOutcome xs i = orElse (heldBy xs i 10415 4204) (heldBy xs i 0 432)
+
+-- what is said of the AVP a at position i: of a 4207 of the command's own list its outcome
+abbrev pub policyAt : List Avp → ℕ → Avp → Outcome
+policyAt xs i a = cond (isAt a 1 10415 4207) (policyOutcome xs i) Pass
 
 -- each 4207 of the command's own list in order, from position i on
 unfoldable pub eachPolicy : List Avp → ℕ → List Avp → Outcome
 eachPolicy xs i [] = Pass
 eachPolicy xs i (a ∷ rest) =
-    orElse (cond (eqb (a .depth) 1 && named a 10415 4207) (policyOutcome xs i) Pass) (eachPolicy xs (i + 1) rest)
+    orElse (policyAt xs i a) (eachPolicy xs (i + 1) rest)
 
 unfoldable pub answerOutcome : List Avp → ℕ → Outcome
 answerOutcome xs end = orElse (resultOutcome xs end) (orElse (policiesOutcome xs end) (eachPolicy xs 0 xs))
@@ -119,10 +103,13 @@ answerOutcome xs end = orElse (resultOutcome xs end) (orElse (policiesOutcome xs
 abbrev pub isBefore : ℕ → ℕ → Bool
 isBefore = ltb
 
--- the end of a window is greater than its start, else 5004 at 4205
-abbrev pub windowBy : List Avp → List ℕ → ℕ → Found → Found → Outcome
-windowBy xs s end (At i) (At j) =
+-- a window whose 4206 and 4205 stand at positions i and j: the end is greater than the start, else 5004 at 4205
+abbrev pub timesBy : List Avp → List ℕ → ℕ → ℕ → Outcome
+timesBy xs s i j =
     cond (isBefore (numberAt 4 s (avpIn xs i .start)) (numberAt 4 s (avpIn xs j .start))) Pass (memberFault 5004 (avpIn xs j))
+
+abbrev pub windowBy : List Avp → List ℕ → ℕ → Found → Found → Outcome
+windowBy xs s end (At i) (At j) = timesBy xs s i j
 windowBy xs s end (At i) Nothing = refused 5005 end 10415 4205
 windowBy xs s end Nothing (At j) = refused 5005 end 10415 4206
 windowBy xs s end Nothing Nothing = refused 5005 end 10415 4206
@@ -132,13 +119,21 @@ unfoldable pub windowOutcome : List Avp → List ℕ → ℕ → ℕ → Outcome
 windowOutcome xs s i depth =
     windowBy xs s (endOf (avpIn xs i)) (member xs i depth 10415 4206) (member xs i depth 10415 4205)
 
+-- what is said of the AVP a at position i: of a 4204, at any depth, its outcome
+abbrev pub windowAt : List Avp → List ℕ → ℕ → Avp → Outcome
+windowAt xs s i a = cond (named a 10415 4204) (windowOutcome xs s i (a .depth + 1)) Pass
+
 -- each 4204 of the walk, from position i on
 unfoldable pub eachWindow : List Avp → List ℕ → ℕ → List Avp → Outcome
 eachWindow xs s i [] = Pass
 eachWindow xs s i (a ∷ rest) =
-    orElse (cond (named a 10415 4204) (windowOutcome xs s i (a .depth + 1)) Pass) (eachWindow xs s (i + 1) rest)
+    orElse (windowAt xs s i a) (eachWindow xs s (i + 1) rest)
 
--- the rules of a request or of an answer, then the windows
+-- the rules of a request or of an answer
+abbrev pub byCommand : Bool → List Avp → List ℕ → ℕ → Outcome
+byCommand request xs s end = cond request (requestOutcome xs s end) (answerOutcome xs end)
+
+-- then the windows
 unfoldable pub exchangeOutcome : Bool → List Avp → List ℕ → ℕ → Outcome
 exchangeOutcome request xs s end =
-    orElse (cond request (requestOutcome xs s end) (answerOutcome xs end)) (eachWindow xs s 0 xs)
+    orElse (byCommand request xs s end) (eachWindow xs s 0 xs)

@@ -7,6 +7,7 @@ pub mod Rows
 pub mod Dictionary
 pub mod Walk
 pub mod RowChecks
+pub mod Search
 pub mod Exchange
 pub mod Command
 pub mod Record

@@ -1,8 +1,8 @@
 -- 01, The record: the record of an accepted command, the empty record, data of a position, and the search.
 use Prim.Native.Nat.{ℕ, _+_, _-_, min}
 use mathlib.Core.List.{List, [], _++_}
-use mathlib.Core.Bool.{Bool, cond, _&&_}
-use lib.ListN.{length, take, drop, getD, replicate}
+use mathlib.Core.Bool.{Bool, cond}
+use lib.ListN.{length, take, drop, replicate}
 use lib.Dec.{ltb, leb}
 use Rattle.rules.specs.declared.Avp.{Avp}
 use Rattle.rules.specs.declared.Record.{Record}
@@ -12,7 +12,7 @@ use Rattle.rules.specs.declared.Outcome.the-variants.{Pass, Refused}
 use Rattle.rules.specs.declared.Found.{Found}
 use Rattle.rules.specs.Header.{commandFlags, hopByHop, endToEnd, isRequest, isProxiable, isError, isRetransmitted}
 use Rattle.rules.specs.Walk.{mostAvps, avpsOf}
-use Rattle.rules.specs.Exchange.{blank, avpIn, search}
+use Rattle.rules.specs.Search.{blank, avpIn, search}
 use Rattle.rules.specs.Command.{commandOutcome, commandVerdict, walkOf}
 
 -- AVPs in room for 256; unused places are 0

@@ -13,31 +13,31 @@ pub record Row : Type 0 where
   pub mark : Mark
 
 -- a row for an AVP without vendor, and one for an AVP of 3GPP
-abbrev pub base : ℕ → Mark → Row
-base code mark = record { vendor = 0; code = code; mark = mark }
+abbrev pub plain : ℕ → Mark → Row
+plain code mark = record { vendor = 0; code = code; mark = mark }
 
-abbrev pub tgpp : ℕ → Mark → Row
-tgpp code mark = record { vendor = 10415; code = code; mark = mark }
+abbrev pub of3GPP : ℕ → Mark → Row
+of3GPP code mark = record { vendor = 10415; code = code; mark = mark }
 
 unfoldable pub rowsOf : Grammar → List Row
 rowsOf Request =
-    base 263 First ∷ base 301 AtMostOnce ∷ base 260 Once ∷ base 277 Once ∷ base 264 Once ∷ base 296 Once ∷ base 283 Once ∷
-    base 293 AtMostOnce ∷ tgpp 4203 Once ∷ tgpp 532 AtMostOnce ∷ base 414 AtMostOnce ∷ base 412 AtMostOnce ∷
-    base 421 AtMostOnce ∷ tgpp 4209 AtMostOnce ∷ tgpp 4204 AtMostOnce ∷ tgpp 4201 AtMostOnce ∷ tgpp 4202 AtMostOnce ∷
-    tgpp 4208 AtMostOnce ∷ base 621 AtMostOnce ∷ base 284 AnyNumber ∷ base 282 AnyNumber ∷ tgpp 628 AnyNumber ∷ []
+    plain 263 First ∷ plain 301 AtMostOnce ∷ plain 260 Once ∷ plain 277 Once ∷ plain 264 Once ∷ plain 296 Once ∷ plain 283 Once ∷
+    plain 293 AtMostOnce ∷ of3GPP 4203 Once ∷ of3GPP 532 AtMostOnce ∷ plain 414 AtMostOnce ∷ plain 412 AtMostOnce ∷
+    plain 421 AtMostOnce ∷ of3GPP 4209 AtMostOnce ∷ of3GPP 4204 AtMostOnce ∷ of3GPP 4201 AtMostOnce ∷ of3GPP 4202 AtMostOnce ∷
+    of3GPP 4208 AtMostOnce ∷ plain 621 AtMostOnce ∷ plain 284 AnyNumber ∷ plain 282 AnyNumber ∷ of3GPP 628 AnyNumber ∷ []
 rowsOf Answer =
-    base 263 First ∷ base 301 AtMostOnce ∷ base 260 Once ∷ base 277 Once ∷ base 264 Once ∷ base 296 Once ∷
-    base 268 AtMostOnce ∷ base 297 AtMostOnce ∷ base 281 AtMostOnce ∷ base 294 AtMostOnce ∷ base 279 AtMostOnce ∷
-    base 292 AnyNumber ∷ base 261 AtMostOnce ∷ base 262 AtMostOnce ∷ tgpp 4202 AtMostOnce ∷ base 621 AtMostOnce ∷
-    base 623 AtMostOnce ∷ tgpp 4207 AnyNumber ∷ tgpp 2207 AtMostOnce ∷ base 284 AnyNumber ∷ base 282 AnyNumber ∷
-    tgpp 628 AnyNumber ∷ base 650 AnyNumber ∷ []
-rowsOf VendorSpecificApplicationId = base 266 Once ∷ base 258 AtMostOnce ∷ base 259 AtMostOnce ∷ []
-rowsOf ExperimentalResult = base 266 Once ∷ base 298 Once ∷ []
-rowsOf ProxyInfo = base 280 Once ∷ base 33 Once ∷ []
-rowsOf SupportedFeatures = base 266 Once ∷ tgpp 629 Once ∷ tgpp 630 Once ∷ []
-rowsOf TimeWindow = tgpp 4206 Once ∷ tgpp 4205 Once ∷ []
+    plain 263 First ∷ plain 301 AtMostOnce ∷ plain 260 Once ∷ plain 277 Once ∷ plain 264 Once ∷ plain 296 Once ∷
+    plain 268 AtMostOnce ∷ plain 297 AtMostOnce ∷ plain 281 AtMostOnce ∷ plain 294 AtMostOnce ∷ plain 279 AtMostOnce ∷
+    plain 292 AnyNumber ∷ plain 261 AtMostOnce ∷ plain 262 AtMostOnce ∷ of3GPP 4202 AtMostOnce ∷ plain 621 AtMostOnce ∷
+    plain 623 AtMostOnce ∷ of3GPP 4207 AnyNumber ∷ of3GPP 2207 AtMostOnce ∷ plain 284 AnyNumber ∷ plain 282 AnyNumber ∷
+    of3GPP 628 AnyNumber ∷ plain 650 AnyNumber ∷ []
+rowsOf VendorSpecificApplicationId = plain 266 Once ∷ plain 258 AtMostOnce ∷ plain 259 AtMostOnce ∷ []
+rowsOf ExperimentalResult = plain 266 Once ∷ plain 298 Once ∷ []
+rowsOf ProxyInfo = plain 280 Once ∷ plain 33 Once ∷ []
+rowsOf SupportedFeatures = plain 266 Once ∷ of3GPP 629 Once ∷ of3GPP 630 Once ∷ []
+rowsOf TimeWindow = of3GPP 4206 Once ∷ of3GPP 4205 Once ∷ []
 rowsOf TransferPolicy =
-    tgpp 4208 Once ∷ tgpp 4204 AtMostOnce ∷ base 432 AtMostOnce ∷ tgpp 515 AtMostOnce ∷ tgpp 516 AtMostOnce ∷ []
+    of3GPP 4208 Once ∷ of3GPP 4204 AtMostOnce ∷ plain 432 AtMostOnce ∷ of3GPP 515 AtMostOnce ∷ of3GPP 516 AtMostOnce ∷ []
 
 -- "+" at the end admits any other AVP in any number
 unfoldable pub admitsOthers : Grammar → Bool

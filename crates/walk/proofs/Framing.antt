@@ -2,13 +2,13 @@
 use mathlib.Core.Path.{_≡_, sym, _∙_}
 use mathlib.Core.Bool.{Bool}
 use mathlib.Core.List.{List}
-use Prim.Native.Nat.{ℕ, _+_, _-_, _≤_, _<_}
+use Prim.Native.Nat.{ℕ, _+_, _-_, _≤_}
 use native.Mathlib.Omega.{arith}
 use borrow.Author.Tests.{ltb-true, ltb-false}
 use lib.Dec.{ltb}
 use Rattle.rules.specs.declared.Outcome.the-variants.{Pass}
-use Rattle.rules.specs.Octets.{numberAt, padded}
-use Rattle.rules.specs.Avp.{codeAt, flagsAt, flagV, lengthAt, headerOf}
+use Rattle.rules.specs.Octets.{numberAt}
+use Rattle.rules.specs.Avp.{codeAt, flagsAt, flagV, lengthAt}
 use Rattle.rules.specs.Walk.{framing}
 use Rattle.rules.proofs.Walk.{by-cases, never, framedBy-fits, framing-left, framing-plain, framing-vendor-left, framing-vendor}
 use Rattle.walk.specs.Promise.{Framed}

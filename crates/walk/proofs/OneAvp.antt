@@ -1,25 +1,24 @@
 -- The promise of the AVP walk, from what its checks gave.
-use mathlib.Core.Path.{_≡_, refl, sym, ap, _∙_}
-use mathlib.Core.List.{List, [], _∷_}
-use Prim.Native.Nat.{ℕ, suc, _+_, _-_, _≤_, _<_}
+use mathlib.Core.Path.{_≡_, refl, ap, _∙_}
+use mathlib.Core.List.{List, []}
+use Prim.Native.Nat.{ℕ, _+_, _-_, _≤_, _<_}
 use native.Mathlib.Nat.{add-assoc}
 use native.Mathlib.Omega.{arith}
 use lib.ListN.{length, length-append}
 use Rattle.rules.specs.declared.Avp.{Avp}
 use Rattle.rules.specs.declared.Verdict.{Verdict}
 use Rattle.rules.specs.declared.Outcome.the-variants.{Pass}
-use Rattle.rules.specs.declared.Checked.the-variants.{Fault, Plain, Group}
-use Rattle.rules.specs.Octets.{padded}
-use Rattle.rules.specs.Avp.{flagV, flagsAt, headerOf, lengthAt, nextAt, avpAt, endOf}
+use Rattle.rules.specs.declared.Checked.the-variants.{Plain, Group}
+use Rattle.rules.specs.Avp.{flagV, flagsAt, lengthAt, nextAt, avpAt, endOf}
 use Rattle.rules.specs.Dictionary.{dictionary}
 use Rattle.rules.specs.Walk.{framing, checked, Walked, whole, stopped, avpsOf, after, walkAvp, walkList}
 use Rattle.rules.proofs.Octets.{padded-least}
 use Rattle.rules.proofs.Fields.{avpAt-start, avpAt-end, avpAt-depth, header-least}
-use Rattle.rules.proofs.Walk.{plain-is, group-is, avps-after, avp-fault, avp-plain, avp-group}
+use Rattle.rules.proofs.Walk.{plain-is, group-is, avps-after, avp-plain, avp-group}
 use Rattle.log.specs.Log.{putAvp, written}
 use Rattle.walk.specs.declared.Walk.{Walk}
 use Rattle.walk.specs.declared.Walk.the-variants.{Whole, Stopped}
-use Rattle.walk.specs.Promise.{InList, Framed, answerOf, AvpWalked, ListWalked}
+use Rattle.walk.specs.Promise.{answerOf, AvpWalked, ListWalked}
 use Rattle.walk.proofs.Framing.{frame-framed}
 
 pub answer-after : (count : ℕ) (xs : List Avp) (w : Walked) → answerOf count (after xs w) ≡ answerOf (count + length xs) w

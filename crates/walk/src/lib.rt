@@ -1,6 +1,5 @@
 // 01, Order of checks, Walk: the AVPs of a command in walk order, written into a lent log, or the first fault. The list walk
 // and the AVP walk call each other; the depth that is left falls at each group.
-ghost use mathlib.Core.Path.{_≡_};
 ghost use Rattle.walk.specs.Promise.{Ready, AvpWalked, ListWalked, CommandWalked};
 use rules::Checked;
 use rules::Verdict;

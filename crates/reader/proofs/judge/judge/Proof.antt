@@ -1,7 +1,6 @@
 -- `reader::judge::judge` meets its contract.
 use borrow.Author.Needs.{needs}
 use mathlib.Core.Path.{sym, _∙_}
-use native.Mathlib.Omega.{arith}
 use Rattle.reader.proofs.Order.{judged-header, header-long, header-short, judged-stopped, judged-whole}
 use Rattle.reader.proofs.judge.judge.Statement.{statement}
 use Rattle.reader.proofs.judge.judge.Tie as tie

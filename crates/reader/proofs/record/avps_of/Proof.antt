@@ -4,9 +4,9 @@ use mathlib.Core.Path.{_≡_, sym, ap, _∙_}
 use mathlib.Core.List.{List}
 use Prim.Native.Nat.{ℕ, _≤_, _-_}
 use native.Mathlib.Omega.{arith}
-use lib.ListN.{length, set}
+use lib.ListN.{set}
 use Rattle.rules.specs.declared.Avp.{Avp}
-use Rattle.rules.specs.Exchange.{avpIn}
+use Rattle.rules.specs.Search.{avpIn}
 use Rattle.log.specs.Log.{avpsIn}
 use Rattle.log.proofs.Log.{avps-at, length-avpsIn}
 use Rattle.reader.proofs.Places.{filled, filled-next, filled-all}

@@ -1,11 +1,10 @@
 -- `reader::record::data` meets its contract.
 use borrow.Author.Needs.{needs}
 use mathlib.Core.Path.{_≡_, sym, ap, _∙_}
-use mathlib.Core.List.{List}
 use Prim.Native.Nat.{ℕ, _+_, _-_}
 use native.Mathlib.Omega.{arith}
 use lib.ListN.{take, drop}
-use Rattle.rules.specs.Exchange.{avpIn}
+use Rattle.rules.specs.Search.{avpIn}
 use Rattle.reader.proofs.Places.{data-unused, data-outside, data-inside}
 use Rattle.reader.proofs.record.data.Statement.{statement}
 use Rattle.reader.proofs.record.data.Tie as tie

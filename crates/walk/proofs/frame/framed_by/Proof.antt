@@ -1,7 +1,6 @@
 -- `walk::frame::framed_by` meets its contract.
 use borrow.Author.Needs.{needs}
 use mathlib.Core.Path.{sym}
-use native.Mathlib.Omega.{arith}
 use Rattle.rules.proofs.Walk.{framedBy-short, framedBy-long, framedBy-pass}
 use Rattle.walk.proofs.frame.framed_by.Statement.{statement}
 use Rattle.walk.proofs.frame.framed_by.Tie as tie

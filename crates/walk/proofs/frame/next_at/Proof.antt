@@ -1,9 +1,6 @@
 -- `walk::frame::next_at` meets its contract.
 use borrow.Author.Needs.{needs}
-use mathlib.Core.Path.{ap}
-use Prim.Native.Nat.{ℕ, _+_}
 use native.Mathlib.Omega.{arith}
-use Rattle.rules.specs.Octets.{padded}
 use Rattle.rules.proofs.Octets.{padded-near}
 use Rattle.walk.proofs.frame.next_at.Statement.{statement}
 use Rattle.walk.proofs.frame.next_at.Tie as tie
