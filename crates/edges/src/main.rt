@@ -1,0 +1,78 @@
+// Runs the commands of document 01, section "Commands at the edges", that are not marked (p), and further edges of its
+// clauses, through the reader, and the names of all AVP kinds through the dictionary. A line for each case, in the order of
+// the files: its label, number, place, Vendor-Id and code. The file `stdout` has what document 01 says must come out.
+mod case;
+mod exchange;
+mod header;
+mod kinds;
+mod limits;
+mod notation;
+mod octets;
+mod print;
+mod record;
+mod rows;
+mod walk;
+
+fn header_cases() {
+    header::lengths();
+    header::names();
+    header::flags();
+}
+
+fn walk_cases() {
+    walk::stray_octets();
+    walk::avp_lengths();
+    walk::flags();
+    walk::names();
+    walk::values();
+    walk::depths();
+    walk::unread();
+}
+
+fn row_cases() {
+    rows::after_walk();
+    rows::session_ids();
+    rows::command_list();
+    rows::vendor_specific_application_ids();
+    rows::groups();
+    rows::list_order();
+}
+
+fn exchange_cases() {
+    exchange::first_requests();
+    exchange::later_requests();
+    exchange::results();
+    exchange::policy_counts();
+    exchange::policies();
+    exchange::windows();
+}
+
+fn records() {
+    record::of_s();
+    record::of_flags();
+    record::of_count_300();
+    record::of_refusal();
+}
+
+fn dictionary_kinds() {
+    kinds::rfc_6733_numbers();
+    kinds::rfc_6733_any_length();
+    kinds::rfc_6733_groups();
+    kinds::rfc_4006();
+    kinds::m_free();
+    kinds::m_free_of_3gpp();
+    kinds::numbers_of_3gpp();
+    kinds::others_of_3gpp();
+}
+
+fn main() {
+    limits::values();
+    limits::counts();
+    limits::lengths();
+    header_cases();
+    walk_cases();
+    row_cases();
+    exchange_cases();
+    records();
+    dictionary_kinds();
+}

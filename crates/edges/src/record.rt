@@ -1,0 +1,146 @@
+// 01, The record and the writer: the record of S, the data of its positions, and the search.
+ghost use Prim.Native.Nat.{_≤_};
+use crate::case;
+use crate::octets;
+use crate::print;
+use rules::Found;
+use rules::Reading;
+use rules::Record;
+
+// What the reader makes of the first `length` octets.
+fn read(command: [u8; 16400], length: usize) -> Reading
+    requires { ⌜ length ≤ 16400 ⌝ }
+{
+    reader::read(&command[..length])
+}
+
+// R, P, E, T, both identifiers and the count.
+fn record_line(record: Record) {
+    print::word(b"record");
+    print::bit(record.r);
+    print::bit(record.p);
+    print::bit(record.e);
+    print::bit(record.t);
+    print::spaced(record.hop_by_hop);
+    print::spaced(record.end_to_end);
+    print::spaced(record.count);
+    print::end_line();
+}
+
+// A position, and its depth, vendor, code, M, P, start and length of the data.
+fn avp_line(record: Record, position: u8) {
+    let i = position as usize;
+    let a = record.avps[i];
+    print::word(b"avp");
+    print::spaced(position as u32);
+    print::spaced(a.depth);
+    print::spaced(a.vendor);
+    print::spaced(a.code);
+    print::bit(a.m);
+    print::bit(a.p);
+    print::spaced(a.start);
+    print::spaced(a.length);
+    print::end_line();
+}
+
+// A position, and the number of its octets and each of them, from the first `length` octets.
+fn data_line(record: Record, position: u16, command: [u8; 16400], length: usize)
+    requires { ⌜ length ≤ 16400 ⌝ }
+{
+    let data = reader::data(record, position as usize, &command[..length]);
+    print::word(b"data");
+    print::spaced(position as u32);
+    print::octets(data);
+    print::end_line();
+}
+
+fn search_line(record: Record, vendor: u32, code: u32) {
+    print::word(b"search");
+    print::spaced(vendor);
+    print::spaced(code);
+    let found = reader::search(record, vendor, code);
+    match found {
+        Found::At(position) => print::position(position),
+        Found::Nothing => print::word(b" nothing"),
+    }
+    print::end_line();
+}
+
+// A string, a group, the data of a group's member, 4203, 4208, and two unused places.
+fn avps(record: Record) {
+    avp_line(record, 0);
+    avp_line(record, 1);
+    avp_line(record, 2);
+    avp_line(record, 7);
+    avp_line(record, 10);
+    avp_line(record, 11);
+    avp_line(record, 255);
+}
+
+// The 263, the 260, the 4203; then an unused position, one that the record has no room for, and 4208, whose part ends at 160.
+fn parts(record: Record, s: [u8; 16400]) {
+    data_line(record, 0, s, 160);
+    data_line(record, 1, s, 160);
+    data_line(record, 7, s, 160);
+    data_line(record, 11, s, 160);
+    data_line(record, 256, s, 160);
+    data_line(record, 10, s, 160);
+}
+
+// 4203 is at position 7; there is no 4209; 266 stands at depth 2 only; 4203 is named with its vendor.
+fn searches(record: Record) {
+    search_line(record, 10415, 4203);
+    search_line(record, 10415, 4209);
+    search_line(record, 0, 266);
+    search_line(record, 0, 4203);
+}
+
+pub(crate) fn of_s() {
+    let mut out = [0u8; 16400];
+    case::put_s(&mut out, b"");
+    let reading = read(out, 160);
+    let record = reading.record;
+    record_line(record);
+    avps(record);
+    parts(record, out);
+    // Without the last octet of S the part of 4208 leaves the slice.
+    data_line(record, 10, out, 159);
+    searches(record);
+}
+
+// S with T set, and behind it a 282 with P and a 281 without M.
+pub(crate) fn of_flags() {
+    let mut out = [0u8; 16400];
+    case::put_s(&mut out, b"MP282:72 281:65");
+    octets::put(&mut out, 4, 0xd0);
+    let reading = read(out, 184);
+    let record = reading.record;
+    record_line(record);
+    avp_line(record, 11);
+    avp_line(record, 12);
+}
+
+// A count above 256 is read as 256.
+pub(crate) fn of_count_300() {
+    let mut out = [0u8; 16400];
+    case::put_s(&mut out, b"");
+    let reading = read(out, 160);
+    let mut record = reading.record;
+    record.count = 300;
+    data_line(record, 255, out, 160);
+    data_line(record, 256, out, 160);
+    search_line(record, 10415, 4208);
+    search_line(record, 10415, 4209);
+}
+
+// 01, What comes back: every refusal carries the empty record. S is cut to 156 octets.
+pub(crate) fn of_refusal() {
+    let mut out = [0u8; 16400];
+    case::put_s(&mut out, b"");
+    let reading = read(out, 156);
+    let verdict = reading.verdict;
+    print::verdict_line(b"cut_s", verdict);
+    let record = reading.record;
+    record_line(record);
+    avp_line(record, 0);
+}
