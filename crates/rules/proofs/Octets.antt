@@ -1,14 +1,14 @@
 -- Laws of octets and numbers: big-endian numbers over the width, in the form in which code reads them.
 use mathlib.Core.Path.{_≡_, refl, sym, ap, _∙_}
 use mathlib.Core.List.{List, [], _∷_, _++_}
-use Prim.Native.Nat.{ℕ, zero, suc, _+_, _*_, _^_, _≤_, _<_}
-use native.Mathlib.Nat.{add-zero, mul-assoc, pow-suc, add-mul, one-le-pow}
+use Prim.Native.Nat.{ℕ, zero, suc, _+_, _-_, _*_, _^_, _≤_, _<_}
+use native.Mathlib.Nat.{sub-zero, zero-sub, add-zero, mul-assoc, pow-suc, add-mul, one-le-pow}
 use native.Mathlib.Omega.{arith}
 use native.Mathlib.Numerals.{add-one}
 use borrow.Author.Tests.{le-leb, lt-leb}
 use lib.ListN.{length, take, drop, getD, length-append, length-drop}
 use lib.Pow.{pow-add}
-use lib.Seq.{take-suc, getD-drop, take-add, drop-drop, length-take-le}
+use lib.Seq.{take-suc, getD-drop, take-add, drop-drop, drop-nil, take-nil, take-take, length-take-le}
 use lib.Dec.{lit<}
 use Rattle.rules.specs.Octets.{number, numberAt, IsNumber, padded}
 
@@ -85,3 +85,23 @@ padded-least n = omega arith
 pub padded-near : (n : ℕ) → padded n ≤ n + 3
 unfolding padded
 padded-near n = omega arith
+
+-- ---- numbers in a part of a list
+
+drop-take : (k n : ℕ) (l : List ℕ) → drop k (take n l) ≡ take (n - k) (drop k l)
+drop-take zero n l = rw (sub-zero n)
+drop-take (suc k) zero l = drop-nil (suc k) ∙ rw (zero-sub (suc k))
+drop-take (suc k) (suc n) [] = sym (take-nil (suc n - suc k))
+drop-take (suc k) (suc n) (x ∷ l) =
+    let e : suc n - suc k ≡ n - k = omega arith in
+    rw e (drop-take k n l)
+
+-- the octets of a part are those of the whole, further on
+pub numberAt-part : (w : ℕ) (s : List ℕ) (at n k : ℕ) → k + w ≤ n → at + n ≤ length s
+    → numberAt w (take n (drop at s)) k ≡ numberAt w s (at + k)
+numberAt-part w s at n k h r =
+    let long : length (take n (drop at s)) ≡ n = length-take-le n (drop at s) (simp length-drop (omega arith)) in
+    numberAt-in w (take n (drop at s)) k (rw long h)
+    ∙ ap number (ap (take w) (drop-take k n (drop at s) ∙ ap (take (n - k)) (drop-drop k at s))
+    ∙ take-take w (n - k) (drop (at + k) s) (omega arith))
+    ∙ sym (numberAt-in w s (at + k) (omega arith))

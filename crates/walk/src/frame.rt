@@ -1,4 +1,5 @@
-// 01, AVP, and Walk, check 2: the fields of the AVP at a place, and whether the octets left in its list hold it.
+// 01, AVP, and Walk, check 2: the fields of the AVP at a place, and whether the octets left in its list hold it. Both are
+// read from the rest of the list, so that one test of its length spares those of each number.
 ghost use mathlib.Core.Path.{_≡_};
 ghost use Prim.Native.Nat.{_+_, _<_};
 ghost use Rattle.rules.specs.Octets.{padded};
@@ -56,7 +57,8 @@ pub(crate) fn frame(s: &[u8], at: usize, end: usize) -> Outcome
     requires { ⌜ InList (now s) at end ⌝ }
     ensures { λ r. ⌜ r ≡ framing (now (s .entry)) at end ⌝ }
 {
-    let left = end - at;
+    let rest = &s[at..end];
+    let left = rest.len();
     if left < 8 {
         return Outcome::Refused(Verdict {
             number: 5014,
@@ -65,9 +67,9 @@ pub(crate) fn frame(s: &[u8], at: usize, end: usize) -> Outcome
             code: 0,
         });
     }
-    let code = octets::number4(s, at);
-    let length = octets::number3(s, at + 5) as usize;
-    let v = s[at + 4] / 128 % 2;
+    let code = octets::number4(rest, 0);
+    let length = octets::number3(rest, 5) as usize;
+    let v = rest[4] / 128 % 2;
     if v != 1 {
         return framed_by(at, left, 8, length, 0, code);
     }
@@ -79,7 +81,7 @@ pub(crate) fn frame(s: &[u8], at: usize, end: usize) -> Outcome
             code,
         });
     }
-    framed_by(at, left, 12, length, octets::number4(s, at + 8), code)
+    framed_by(at, left, 12, length, octets::number4(rest, 8), code)
 }
 
 // The AVP at a place, in a list at this depth.
@@ -88,9 +90,10 @@ pub(crate) fn avp_at(s: &[u8], at: usize, end: usize, depth: u32) -> Avp
     requires framed { ⌜ Framed (now s) at end ⌝ }
     ensures { λ r. ⌜ r ≡ avpAt (now (s .entry)) at depth ⌝ }
 {
-    let code = octets::number4(s, at);
-    let length = octets::number3(s, at + 5);
-    let flags = s[at + 4];
+    let rest = &s[at..end];
+    let code = octets::number4(rest, 0);
+    let length = octets::number3(rest, 5);
+    let flags = rest[4];
     let v = flags / 128 % 2;
     let m = flags / 64 % 2;
     let p = flags / 32 % 2;
@@ -107,7 +110,7 @@ pub(crate) fn avp_at(s: &[u8], at: usize, end: usize, depth: u32) -> Avp
     }
     Avp {
         depth,
-        vendor: octets::number4(s, at + 8),
+        vendor: octets::number4(rest, 8),
         code,
         m: m == 1,
         p: p == 1,
