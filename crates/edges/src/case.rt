@@ -2,6 +2,62 @@
 use crate::notation;
 use crate::octets;
 use crate::print;
+use crate::text;
+
+// What a command starts with: the header of H (01, The book and its listing), with the flags of a BTR or of a BTA, and none
+// or some of the AVPs of S (01, Commands at the edges).
+pub(crate) enum Start {
+    // Up to 20: no AVP.
+    Request,
+    Answer,
+    // Up to 100: 263, 260, 277, 264, 296 and 283.
+    BegunRequest,
+    // Up to 88: 263, 260, 277, 264 and 296, the rows of BTA that are marked ! and 1.
+    BegunAnswer,
+    // Up to 160: the whole of S.
+    S,
+}
+
+fn put_header(out: &mut [u8; 16400], flags: u8) -> usize {
+    let end = notation::put(out, 0, b"#0100000000800073010000840000000100000002");
+    octets::put(out, 4, flags);
+    end
+}
+
+fn put_begun(out: &mut [u8; 16400], flags: u8) -> usize {
+    let first = put_header(out, flags);
+    notation::put(
+        out,
+        first,
+        b"M263:73 M260(M266=10415) M277=1 M264:6F M296:72",
+    )
+}
+
+fn put_begun_request(out: &mut [u8; 16400]) -> usize {
+    let next = put_begun(out, 0xc0);
+    notation::put(out, next, b"M283:64")
+}
+
+fn put_start(out: &mut [u8; 16400], start: Start) -> usize {
+    match start {
+        Start::Request => put_header(out, 0xc0),
+        Start::Answer => put_header(out, 0x40),
+        Start::BegunRequest => put_begun_request(out),
+        Start::BegunAnswer => put_begun(out, 0x40),
+        Start::S => {
+            let next = put_begun_request(out);
+            notation::put(out, next, b"VM4203=1 M293:68 VM4202:72 VM4208=1")
+        }
+    }
+}
+
+// A command with these AVPs behind its start, and the length of both.
+pub(crate) fn put_command(out: &mut [u8; 16400], start: Start, avps: &[u8]) -> usize {
+    let next = put_start(out, start);
+    let end = notation::put(out, next, avps);
+    octets::put_length(out, 1, 0, end);
+    end
+}
 
 // The verdict on the first `length` octets.
 pub(crate) fn judge(label: &[u8], command: [u8; 16400], length: usize) {
@@ -13,38 +69,6 @@ pub(crate) fn judge(label: &[u8], command: [u8; 16400], length: usize) {
     print::verdict_line(label, v);
 }
 
-// The header of H (01, The book and its listing) with these flags, and two runs of AVPs.
-fn put_command(out: &mut [u8; 16400], flags: u8, avps: &[u8], more: &[u8]) -> usize {
-    let first = notation::put(out, 0, b"#0100000000800073010000840000000100000002");
-    octets::put(out, 4, flags);
-    let next = notation::put(out, first, avps);
-    let end = notation::put(out, next, more);
-    octets::put_length(out, 1, 0, end);
-    end
-}
-
-fn judge_command(label: &[u8], flags: u8, avps: &[u8], more: &[u8]) {
-    let mut out = [0u8; 16400];
-    let end = put_command(&mut out, flags, avps, more);
-    judge(label, out, end);
-}
-
-// S and what stands behind it (01, Commands at the edges); the first AVP behind S is at 160.
-pub(crate) fn put_s(out: &mut [u8; 16400], more: &[u8]) -> usize {
-    put_command(
-        out,
-        0xc0,
-        b"M263:73 M260(M266=10415) M277=1 M264:6F M296:72 M283:64 VM4203=1 M293:68 VM4202:72 VM4208=1",
-        more,
-    )
-}
-
-pub(crate) fn longer_s(label: &[u8], more: &[u8]) {
-    let mut out = [0u8; 16400];
-    let end = put_s(&mut out, more);
-    judge(label, out, end);
-}
-
 // Octets as they are: nothing is put before them, and no length is set.
 pub(crate) fn octets(label: &[u8], text: &[u8]) {
     let mut out = [0u8; 16400];
@@ -52,32 +76,24 @@ pub(crate) fn octets(label: &[u8], text: &[u8]) {
     judge(label, out, end);
 }
 
-// A BTR of these AVPs; the first is at 20.
-pub(crate) fn request(label: &[u8], avps: &[u8]) {
-    judge_command(label, 0xc0, avps, b"");
+fn judge_command(label: &[u8], start: Start, avps: &[u8]) {
+    let mut out = [0u8; 16400];
+    let end = put_command(&mut out, start, avps);
+    judge(label, out, end);
 }
 
-// A BTA of these AVPs; the first is at 20.
-pub(crate) fn answer(label: &[u8], avps: &[u8]) {
-    judge_command(label, 0x40, avps, b"");
+fn judge_line(start: Start, line: &[u8]) {
+    let label = text::behind_spaces(line);
+    let end = text::end_of(line, label, b' ');
+    judge_command(&line[label..end], start, &line[end..]);
 }
 
-// A BTR that starts as S does, with 263, 260, 277, 264, 296 and 283; the first AVP behind them is at 100.
-pub(crate) fn begun_request(label: &[u8], more: &[u8]) {
-    judge_command(
-        label,
-        0xc0,
-        b"M263:73 M260(M266=10415) M277=1 M264:6F M296:72 M283:64",
-        more,
-    );
-}
-
-// A BTA that starts with the AVPs of its rows marked ! and 1, 263, 260, 277, 264 and 296; the first behind them is at 88.
-pub(crate) fn begun_answer(label: &[u8], more: &[u8]) {
-    judge_command(
-        label,
-        0x40,
-        b"M263:73 M260(M266=10415) M277=1 M264:6F M296:72",
-        more,
-    );
+// A case for each line: its label, and the AVPs behind the start.
+pub(crate) fn each(start: Start, lines: &[u8]) {
+    let mut at = 0;
+    while at < lines.len() {
+        let end = text::end_of(lines, at, b'\n');
+        judge_line(start, &lines[at..end]);
+        at = end + 1;
+    }
 }

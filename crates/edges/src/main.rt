@@ -1,6 +1,6 @@
 // Runs the commands of document 01, section "Commands at the edges", that are not marked (p), and further edges of its
-// clauses, through the reader, and the names of all AVP kinds through the dictionary. A line for each case, in the order of
-// the files: its label, number, place, Vendor-Id and code. The file `stdout` has what document 01 says must come out.
+// clauses, through the reader, and the names of all AVP kinds through the dictionary. A line for each case: its label,
+// number, place, Vendor-Id and code. The file `stdout` has what document 01 says must come out.
 mod case;
 mod exchange;
 mod header;
@@ -11,6 +11,7 @@ mod octets;
 mod print;
 mod record;
 mod rows;
+mod text;
 mod walk;
 
 fn header_cases() {
@@ -23,8 +24,8 @@ fn walk_cases() {
     walk::stray_octets();
     walk::avp_lengths();
     walk::flags();
-    walk::names();
-    walk::values();
+    walk::transfer_request_types();
+    walk::names_and_values();
     walk::depths();
     walk::unread();
 }

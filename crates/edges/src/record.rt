@@ -1,6 +1,7 @@
 // 01, The record and the writer: the record of S, the data of its positions, and the search.
 ghost use Prim.Native.Nat.{_≤_};
 use crate::case;
+use crate::case::Start;
 use crate::octets;
 use crate::print;
 use rules::Found;
@@ -66,7 +67,7 @@ fn search_line(record: Record, vendor: u32, code: u32) {
     print::end_line();
 }
 
-// A string, a group, the data of a group's member, 4203, 4208, and two unused places.
+// A string, a group and its member, 4203, 4208, and two unused places.
 fn avps(record: Record) {
     avp_line(record, 0);
     avp_line(record, 1);
@@ -77,7 +78,7 @@ fn avps(record: Record) {
     avp_line(record, 255);
 }
 
-// The 263, the 260, the 4203; then an unused position, one that the record has no room for, and 4208, whose part ends at 160.
+// The 263, the 260, the 4203; an unused position; one that the record has no room for; 4208, whose part ends at 160.
 fn parts(record: Record, s: [u8; 16400]) {
     data_line(record, 0, s, 160);
     data_line(record, 1, s, 160);
@@ -97,7 +98,7 @@ fn searches(record: Record) {
 
 pub(crate) fn of_s() {
     let mut out = [0u8; 16400];
-    case::put_s(&mut out, b"");
+    case::put_command(&mut out, Start::S, b"");
     let reading = read(out, 160);
     let record = reading.record;
     record_line(record);
@@ -111,7 +112,7 @@ pub(crate) fn of_s() {
 // S with T set, and behind it a 282 with P and a 281 without M.
 pub(crate) fn of_flags() {
     let mut out = [0u8; 16400];
-    case::put_s(&mut out, b"MP282:72 281:65");
+    case::put_command(&mut out, Start::S, b"MP282:72 281:65");
     octets::put(&mut out, 4, 0xd0);
     let reading = read(out, 184);
     let record = reading.record;
@@ -123,7 +124,7 @@ pub(crate) fn of_flags() {
 // A count above 256 is read as 256.
 pub(crate) fn of_count_300() {
     let mut out = [0u8; 16400];
-    case::put_s(&mut out, b"");
+    case::put_command(&mut out, Start::S, b"");
     let reading = read(out, 160);
     let mut record = reading.record;
     record.count = 300;
@@ -136,7 +137,7 @@ pub(crate) fn of_count_300() {
 // 01, What comes back: every refusal carries the empty record. S is cut to 156 octets.
 pub(crate) fn of_refusal() {
     let mut out = [0u8; 16400];
-    case::put_s(&mut out, b"");
+    case::put_command(&mut out, Start::S, b"");
     let reading = read(out, 156);
     let verdict = reading.verdict;
     print::verdict_line(b"cut_s", verdict);

@@ -1,71 +1,61 @@
-// 01, Rows, and Order of checks, Rows.
+// 01, Rows, and Order of checks, Rows. Most commands are S but for the AVPs at fault.
 use crate::case;
+use crate::case::Start;
 
-// The walk is whole before any row is judged.
+// 01, Readings that look right: row faults reported before a later 5014. The second 263 is at 32, the short one at 44.
 pub(crate) fn after_walk() {
-    // 01, Readings that look right: row faults reported before a later 5014. The second 263 is at 32, the short one at 44.
-    case::request(
-        b"row_fault_before_5014",
-        b"M263:73 M263:73 #0000010740000007",
+    case::each(
+        Start::Request,
+        b"row_fault_before_5014 M263:73 M263:73 #0000010740000007",
     );
 }
 
-// 263 in the command's list, in commands that are S but for it.
+// 263 in the command's list: not first with none before it, 5008; none, 5005 at the end; with one before it, 5009 at the
+// second. In a group it is a name like any other.
 pub(crate) fn session_ids() {
-    // Not first, with none before it: 5008.
-    case::request(
-        b"263_second",
-        b"M264:6F M263:73 M260(M266=10415) M277=1 M296:72 M283:64 VM4203=1 M293:68 VM4202:72 VM4208=1",
+    case::each(
+        Start::Request,
+        b"263_second M264:6F M263:73 M260(M266=10415) M277=1 M296:72 M283:64 VM4203=1 M293:68 VM4202:72 VM4208=1
+        263_missing M264:6F M260(M266=10415) M277=1 M296:72 M283:64 VM4203=1 M293:68 VM4202:72 VM4208=1",
     );
-    // With one before it: 5009 at the second.
-    case::longer_s(b"263_twice", b"M263:73");
-    // None: 5005 at the end.
-    case::request(
-        b"263_missing",
-        b"M264:6F M260(M266=10415) M277=1 M296:72 M283:64 VM4203=1 M293:68 VM4202:72 VM4208=1",
+    case::each(
+        Start::S,
+        b"263_twice M263:73
+        263_in_group M284(M280:68 M33:73 M263:73)",
     );
-    // In a group 263 is a name like any other.
-    case::longer_s(b"263_in_group", b"M284(M280:68 M33:73 M263:73)");
 }
 
-// The rest of the command's list.
+// Mark ?: the second 301 exceeds its row. Of several missing rows the first in the printed order.
 pub(crate) fn command_list() {
-    // Mark ?: the second exceeds the row.
-    case::longer_s(b"301_twice", b"301=1 301=1");
-    // The first missing row, in the printed order, at the end of the list.
-    case::request(b"260_missing", b"M263:73 M264:6F");
+    case::each(Start::S, b"301_twice 301=1 301=1");
+    case::each(Start::Request, b"260_missing M263:73 M264:6F");
 }
 
-// 260 has no +.
+// 260 has no +, and 264 is none of its rows; 258 and 259 both pass, and neither, as in S.
 pub(crate) fn vendor_specific_application_ids() {
-    case::request(
-        b"260_with_264",
-        b"M263:73 M260(M266=10415 M264:6F) M277=1 M264:6F M296:72 M283:64 VM4203=1 M293:68 VM4202:72 VM4208=1",
+    case::each(
+        Start::Request,
+        b"260_with_264 M263:73 M260(M266=10415 M264:6F) M277=1 M264:6F M296:72 M283:64 VM4203=1 M293:68 VM4202:72 VM4208=1
+        260_with_258_and_259 M263:73 M260(M266=10415 M258=16777348 M259=0) M277=1 M264:6F M296:72 M283:64 VM4203=1 M293:68 VM4202:72 VM4208=1",
     );
-    // Both 258 and 259, or neither, pass.
-    case::request(
-        b"260_with_258_and_259",
-        b"M263:73 M260(M266=10415 M258=16777348 M259=0) M277=1 M264:6F M296:72 M283:64 VM4203=1 M293:68 VM4202:72 VM4208=1",
-    );
-    case::longer_s(b"260_with_neither", b"");
+    case::each(Start::S, b"260_with_neither");
 }
 
-// Missing rows of groups: the place is the group's end, before the 282.
+// 5005 of a group: the place is the group's end, before the 282.
 pub(crate) fn groups() {
-    case::longer_s(b"628_without_630", b"V628(M266=10415 V629=1) M282:72");
-    case::longer_s(b"4204_without_4205", b"VM4204(VM4206=10) M282:72");
+    case::each(
+        Start::S,
+        b"628_without_630 V628(M266=10415 V629=1) M282:72
+        4204_without_4205 VM4204(VM4206=10) M282:72",
+    );
 }
 
-// The command's list is judged whole before any group.
+// The command's list is judged whole before any group: 260 has a 264 at 52, and the command's list a second 264 at 88, or no
+// 283.
 pub(crate) fn list_order() {
-    // A 264 in 260 at 52, and a second 264 in the command's list at 88.
-    case::request(
-        b"command_list_first",
-        b"M263:73 M260(M266=10415 M264:6F) M277=1 M264:6F M264:6F M296:72 M283:64 VM4203=1 M293:68 VM4202:72 VM4208=1",
-    );
-    // The same in 260, and no 283 in the command's list.
-    case::request(
-        b"missing_row_first",
-        b"M263:73 M260(M266=10415 M264:6F) M277=1 M264:6F M296:72 VM4203=1 M293:68 VM4202:72 VM4208=1",
+    case::each(
+        Start::Request,
+        b"command_list_first M263:73 M260(M266=10415 M264:6F) M277=1 M264:6F M264:6F M296:72 M283:64 VM4203=1 M293:68 VM4202:72 VM4208=1
+        missing_row_first M263:73 M260(M266=10415 M264:6F) M277=1 M264:6F M296:72 VM4203=1 M293:68 VM4202:72 VM4208=1",
     );
 }
