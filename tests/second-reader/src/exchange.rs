@@ -1,0 +1,66 @@
+//! The exchange rules of clause 4.4.1, on the command's own list, and the windows.
+
+use crate::dictionary::{Kind, Kinds};
+use crate::rows::missing;
+use crate::verdict::{number, Verdict};
+use crate::walk::Found;
+
+/// Checks a command whose rows are met; its list ends at `end`.
+pub fn check(request: bool, found: &Found, end: usize) -> Result<(), Verdict> {
+    match (request, found.request_type) {
+        (false, _) => answer(found, end)?,
+        (true, 0) => new_transfer(found.seen, end)?,
+        (true, _) => chosen_policy(found.seen, end)?,
+    }
+    found.window_fault.map_or(Ok(()), Err)
+}
+
+/// A request for policies (Transfer-Request-Type 0).
+fn new_transfer(seen: Kinds, end: usize) -> Result<(), Verdict> {
+    const VOLUME: Kinds =
+        Kinds::of(&[Kind::CcOutputOctets, Kind::CcInputOctets, Kind::CcTotalOctets]);
+    need(seen, Kind::ApplicationServiceProviderIdentity, end)?;
+    if !seen.has_any(VOLUME) {
+        return Err(missing(Kind::CcOutputOctets, end));
+    }
+    need(seen, Kind::NumberOfUes, end)?;
+    need(seen, Kind::TimeWindow, end)
+}
+
+/// A notice of the chosen policy (Transfer-Request-Type 1).
+fn chosen_policy(seen: Kinds, end: usize) -> Result<(), Verdict> {
+    need(seen, Kind::ReferenceId, end)?;
+    need(seen, Kind::TransferPolicyId, end)?;
+    need(seen, Kind::DestinationHost, end)
+}
+
+fn answer(found: &Found, end: usize) -> Result<(), Verdict> {
+    let seen = found.seen;
+    match (seen.has(Kind::ResultCode), seen.has(Kind::ExperimentalResult)) {
+        (false, false) => return Err(missing(Kind::ResultCode, end)),
+        (true, true) => {
+            return Err(Verdict::named(
+                number::AVP_NOT_ALLOWED,
+                found.experimental_result,
+                Kind::ExperimentalResult.vendor(),
+                Kind::ExperimentalResult.code(),
+            ))
+        }
+        _ => {}
+    }
+    if found.policies >= 1 {
+        need(seen, Kind::ReferenceId, end)?;
+    }
+    if found.policies >= 2 {
+        need(seen, Kind::PcrfAddress, end)?;
+    }
+    found.policy_fault.map_or(Ok(()), Err)
+}
+
+fn need(seen: Kinds, kind: Kind, end: usize) -> Result<(), Verdict> {
+    if seen.has(kind) {
+        Ok(())
+    } else {
+        Err(missing(kind, end))
+    }
+}

@@ -1,0 +1,160 @@
+//! Wrong fields: of the header, of AVP headers, of data.
+
+use super::pick::{each, one, some_list, some_node};
+use crate::dictionary::{Form, Kind};
+use crate::generate::draft::{Body, Draft, Node};
+use crate::generate::prng::Prng;
+use crate::generate::sound;
+use Kind::*;
+
+pub fn header(draft: &mut Draft, prng: &mut Prng) {
+    match prng.below(6) {
+        0 => draft.version = prng.pick(&[0, 2, 255]),
+        1 => draft.application ^= 1 << prng.below(32),
+        2 => draft.code = (draft.code ^ 1 << prng.below(24)) & 0xFF_FFFF,
+        3 => draft.flags ^= 0x40,
+        4 => draft.flags ^= 0x20,
+        _ => draft.flags = prng.octet(),
+    }
+    if prng.one_in(4) {
+        header(draft, prng);
+    }
+}
+
+pub fn rename(draft: &mut Draft, prng: &mut Prng) {
+    let change = prng.below(5);
+    let (vendor, code) = (prng.pick(&[1, 10_414, 10_416, u32::MAX]), prng.word());
+    let kind = prng.pick(Kind::ALL);
+    let Some(node) = some_node(draft, prng) else {
+        return;
+    };
+    match change {
+        0 => node.vendor = node.vendor.map_or(Some(10_415), |_| None),
+        1 => node.vendor = Some(vendor),
+        2 => node.code = code,
+        3 => node.code = kind.code(),
+        _ => {
+            node.code = kind.code();
+            node.vendor = (kind.vendor() != 0).then_some(kind.vendor());
+        }
+    }
+    if code & 1 != 0 {
+        node.flags &= !0x40;
+    }
+}
+
+pub fn flags(draft: &mut Draft, prng: &mut Prng) {
+    let change = prng.below(4);
+    let bit = 1 << prng.below(5);
+    let Some(node) = some_node(draft, prng) else {
+        return;
+    };
+    match change {
+        0 | 1 => node.flags ^= 0x40,
+        2 => node.flags |= bit,
+        _ => node.vendor = Some(0),
+    }
+}
+
+pub fn length(draft: &mut Draft, prng: &mut Prng) {
+    let change = prng.below(6);
+    let small = prng.below(16) as u32;
+    let large = prng.pick(&[0xFF_FFFF, 0xFF_FFFD, 0x80_0000, 16_384, 65_536]);
+    let Some(node) = some_node(draft, prng) else {
+        return;
+    };
+    let mut plain = node.clone();
+    plain.length = None;
+    let honest = Draft::of(0, 0, 0, vec![plain]).encode().len() as u32 - 20;
+    node.length = Some(match change {
+        0 => small,
+        1 => large,
+        2 => honest + small,
+        3 => honest.saturating_sub(small),
+        4 => honest + 4 * small,
+        _ => honest + 1,
+    });
+}
+
+pub fn width(draft: &mut Draft, prng: &mut Prng) {
+    let fixed = |node: &Node| {
+        let kind = Kind::of(node.vendor.unwrap_or(0), node.code);
+        kind.is_some_and(|kind| matches!(kind.form(), Form::Four | Form::Eight))
+    };
+    one(draft, prng, fixed, |node, prng| {
+        if let Body::Data(data) = &mut node.body {
+            let length = prng.pick(&[0, 1, 2, 3, 5, 6, 7, 8, 4, 9, 12, 16]);
+            data.resize(length, 0);
+        }
+    });
+}
+
+pub fn value(draft: &mut Draft, prng: &mut Prng) {
+    let wanted = if prng.one_in(2) { AuthSessionState } else { TransferRequestType };
+    if prng.one_in(3) {
+        // One that stands in a group.
+        let node = sound::known(wanted, 4, prng);
+        let list = some_list(&mut draft.list, prng);
+        list.insert(prng.below(list.len() + 1), node);
+    }
+    one(
+        draft,
+        prng,
+        |node| node.is(wanted),
+        |node, prng| {
+            let value: u32 = prng.pick(&[0, 1, 2, 3, 0x100, 0x0100_0000, 0x8000_0000, 0x0001_0001]);
+            node.body = Body::Data(value.to_be_bytes().to_vec());
+        },
+    );
+}
+
+/// Makes windows wrong.
+pub fn window(draft: &mut Draft, prng: &mut Prng) {
+    if prng.one_in(4) {
+        let node = sound::known(TimeWindow, 2, prng);
+        let list = some_list(&mut draft.list, prng);
+        list.insert(prng.below(list.len() + 1), node);
+    }
+    if prng.one_in(8) {
+        // A window in a window, both anew.
+        one(
+            draft,
+            prng,
+            |node| node.is(TimeWindow),
+            |node, prng| {
+                if let Body::Members(members) = &mut node.body {
+                    members
+                        .insert(prng.below(members.len() + 1), sound::known(TimeWindow, 3, prng));
+                }
+            },
+        );
+        each(&mut draft.list, &mut |node| set_times(node, prng));
+    } else {
+        one(draft, prng, |node| node.is(TimeWindow), set_times);
+    }
+}
+
+/// Sets a window's times, in most cases not in order.
+fn set_times(node: &mut Node, prng: &mut Prng) {
+    if node.is(TimeWindow) {
+        let base =
+            prng.pick(&[0u32, 10, 255, 256, 0x7FFF_FFFF, 0x8000_0000, u32::MAX, 0x0102_0304]);
+        let other = match prng.below(5) {
+            0 => base,
+            1 => base.wrapping_add(1),
+            2 => base.wrapping_sub(1),
+            3 => base ^ 0x8000_0000,
+            _ => prng.word(),
+        };
+        let Body::Members(members) = &mut node.body else {
+            return;
+        };
+        for member in members {
+            if member.is(TransferStartTime) {
+                member.body = Body::Data(base.to_be_bytes().to_vec());
+            } else if member.is(TransferEndTime) {
+                member.body = Body::Data(other.to_be_bytes().to_vec());
+            }
+        }
+    }
+}

@@ -1,0 +1,335 @@
+//! Sound commands of every shape.
+
+use super::draft::{Body, Draft, Node};
+use super::prng::Prng;
+use crate::dictionary::{Form, Kind};
+use crate::header::LONGEST_COMMAND;
+use crate::record::MOST_AVPS;
+use crate::rows::{self, Rows};
+use Kind::*;
+
+/// The read groups.
+pub const GROUPS: [Kind; 6] = [
+    VendorSpecificApplicationId,
+    ExperimentalResult,
+    ProxyInfo,
+    SupportedFeatures,
+    TimeWindow,
+    TransferPolicy,
+];
+
+/// A sound command, rarely one that a limit refuses.
+pub fn command(prng: &mut Prng) -> Draft {
+    let mut flags = 0x40 | (prng.octet() & 0x0F);
+    if prng.one_in(3) {
+        flags |= 0x10;
+    }
+    let (rows, list) = if prng.one_in(2) {
+        flags |= 0x80;
+        (&rows::BTR, request(prng))
+    } else {
+        (&rows::BTA, answer(prng))
+    };
+    let mut draft = Draft::of(flags, prng.word(), prng.word(), list);
+    extras(&mut draft.list, rows, 1, prng);
+    if !prng.one_in(4) {
+        prng.shuffle(&mut draft.list[1..]);
+    }
+    if prng.one_in(60) {
+        let goal = prng.pick(&[MOST_AVPS, MOST_AVPS, MOST_AVPS - 1, 200, 100]);
+        fill(&mut draft, goal, prng);
+    }
+    if prng.one_in(150) {
+        let goal = prng.pick(&[LONGEST_COMMAND, LONGEST_COMMAND, LONGEST_COMMAND - 4, 15_000]);
+        stretch(&mut draft, goal, prng);
+    }
+    draft
+}
+
+fn request(prng: &mut Prng) -> Vec<Node> {
+    let kind = prng.below(2);
+    let mut list = required(&rows::BTR, 1, prng);
+    if let Some(node) = list.iter_mut().find(|node| node.code == TransferRequestType.code()) {
+        node.body = Body::Data((kind as u32).to_be_bytes().to_vec());
+    }
+    let volumes = prng.pick(&[1, 2, 4, 3, 5, 6, 7]);
+    let mut optional = |wanted: bool, kinds: &[Kind]| {
+        for &kind in kinds {
+            if wanted || prng.one_in(4) {
+                list.push(known(kind, 1, prng));
+            }
+        }
+    };
+    optional(false, &[Drmp, NetworkAreaInfoList, OcSupportedFeatures]);
+    optional(kind == 0, &[ApplicationServiceProviderIdentity, NumberOfUes, TimeWindow]);
+    optional(kind == 0 && volumes & 1 != 0, &[CcOutputOctets]);
+    optional(kind == 0 && volumes & 2 != 0, &[CcInputOctets]);
+    optional(kind == 0 && volumes & 4 != 0, &[CcTotalOctets]);
+    optional(kind == 1, &[ReferenceId, TransferPolicyId, DestinationHost]);
+    list
+}
+
+fn answer(prng: &mut Prng) -> Vec<Node> {
+    let mut list = required(&rows::BTA, 1, prng);
+    let outcome = if prng.one_in(3) { ExperimentalResult } else { ResultCode };
+    list.push(known(outcome, 1, prng));
+    let policies = prng.pick(&[0, 0, 1, 1, 1, 2, 2, 3, 5]);
+    for _ in 0..policies {
+        list.push(policy(prng));
+    }
+    if policies > 0 || prng.one_in(3) {
+        list.push(known(ReferenceId, 1, prng));
+    }
+    if policies > 1 || prng.one_in(4) {
+        list.push(known(PcrfAddress, 1, prng));
+    }
+    for kind in [
+        Drmp,
+        ErrorMessage,
+        ErrorReportingHost,
+        FailedAvp,
+        RedirectHostUsage,
+        RedirectMaxCacheTime,
+        OcSupportedFeatures,
+        OcOlr,
+    ] {
+        if prng.one_in(4) {
+            list.push(known(kind, 1, prng));
+        }
+    }
+    list
+}
+
+/// A Transfer-Policy as an answer's own list needs it.
+fn policy(prng: &mut Prng) -> Node {
+    let mut node = known(TransferPolicy, 1, prng);
+    if let Body::Members(members) = &mut node.body {
+        for kind in [TimeWindow, RatingGroup] {
+            if !members.iter().any(|member| member.is(kind)) {
+                members.insert(prng.below(members.len() + 1), known(kind, 2, prng));
+            }
+        }
+    }
+    node
+}
+
+/// The required rows of a list, in printed order.
+fn required(rows: &'static Rows, depth: usize, prng: &mut Prng) -> Vec<Node> {
+    rows.required.iter().map(|&kind| known(kind, depth, prng)).collect()
+}
+
+/// A sound AVP of this kind that stands at this depth.
+pub fn known(kind: Kind, depth: usize, prng: &mut Prng) -> Node {
+    let body = match kind.form() {
+        Form::Four => Body::Data(four(kind, prng)),
+        Form::Eight => Body::Data(prng.octets(8)),
+        Form::Octets => Body::Data(text(kind, prng)),
+        Form::Group => Body::Members(members(kind, depth, prng)),
+    };
+    let m = kind.must() || prng.one_in(2);
+    let vendor = (kind.vendor() != 0).then_some(kind.vendor());
+    node(vendor, kind.code(), m, body, prng)
+}
+
+/// An AVP that the dictionary lacks, without M.
+pub fn unknown(prng: &mut Prng) -> Node {
+    loop {
+        let vendor = prng.pick(&[None, Some(10_415), Some(1), Some(u32::MAX), Some(10_416)]);
+        let code = match prng.below(4) {
+            0 => prng.word(),
+            1 => prng.pick(Kind::ALL).code(),
+            2 => prng.below(700) as u32,
+            _ => prng.pick(&[0, 1, 9999, 4200, 4210, 651, 10_415, u32::MAX]),
+        };
+        if Kind::of(vendor.unwrap_or(0), code).is_none() {
+            let length = length(prng);
+            let body = Body::Data(prng.octets(length));
+            return node(vendor, code, false, body, prng);
+        }
+    }
+}
+
+fn node(vendor: Option<u32>, code: u32, m: bool, body: Body, prng: &mut Prng) -> Node {
+    let mut flags = if m { 0x40 } else { 0 };
+    if prng.one_in(4) {
+        flags |= 0x20;
+    }
+    let padding = if prng.one_in(2) { [0; 3] } else { [prng.octet(), prng.octet(), prng.octet()] };
+    Node { vendor, code, flags, body, tail: Vec::new(), length: None, padding, unpadded: false }
+}
+
+fn four(kind: Kind, prng: &mut Prng) -> Vec<u8> {
+    let value = match kind {
+        AuthSessionState => 1,
+        TransferRequestType => prng.below(2) as u32,
+        TransferPolicyId => prng.below(9) as u32,
+        _ => prng.word(),
+    };
+    value.to_be_bytes().to_vec()
+}
+
+fn text(kind: Kind, prng: &mut Prng) -> Vec<u8> {
+    match kind {
+        FailedAvp | Load | OcSupportedFeatures | OcOlr if prng.one_in(2) => malformed(prng),
+        _ => {
+            let length = length(prng);
+            prng.octets(length)
+        }
+    }
+}
+
+/// What looks like an AVP and is none.
+fn malformed(prng: &mut Prng) -> Vec<u8> {
+    let mut data = prng.pick(Kind::ALL).code().to_be_bytes().to_vec();
+    data.push(prng.pick(&[0x00, 0x40, 0xC0, 0xFF, 0x41]));
+    data.extend_from_slice(&[0, 0, prng.octet()]);
+    let more = prng.below(12);
+    data.extend(prng.octets(more));
+    data.truncate(prng.below(data.len()) + 1);
+    data
+}
+
+/// A length of plain data; mostly short.
+fn length(prng: &mut Prng) -> usize {
+    match prng.below(400) {
+        0 => prng.below(3000),
+        1..=9 => prng.below(300),
+        10..=100 => prng.below(40),
+        _ => prng.below(10),
+    }
+}
+
+/// Members of a sound group that stands at this depth.
+fn members(kind: Kind, depth: usize, prng: &mut Prng) -> Vec<Node> {
+    let Some(rows) = rows::of_group(kind) else {
+        return Vec::new();
+    };
+    let inner = depth + 1;
+    let mut list = required(rows, inner, prng);
+    let optional: &[Kind] = match kind {
+        VendorSpecificApplicationId => &[AuthApplicationId, AcctApplicationId],
+        TransferPolicy => {
+            &[TimeWindow, RatingGroup, MaxRequestedBandwidthDl, MaxRequestedBandwidthUl]
+        }
+        _ => &[],
+    };
+    for &kind in optional {
+        if (depth < 3 || kind.form() != Form::Group) && prng.one_in(2) {
+            list.push(known(kind, inner, prng));
+        }
+    }
+    extras(&mut list, rows, inner, prng);
+    prng.shuffle(&mut list);
+    if kind == TimeWindow {
+        set_window(&mut list, prng);
+    }
+    list
+}
+
+/// Gives a Time-Window's members an end after the start, unsigned.
+fn set_window(list: &mut [Node], prng: &mut Prng) {
+    let start = match prng.below(4) {
+        0 => prng.pick(&[0, 0x7FFF_FFFF, 0x7FFF_FFFE, 0x8000_0000, 10, u32::MAX - 1]),
+        _ => prng.word().min(u32::MAX - 1),
+    };
+    let room = u32::MAX - start;
+    let end = start
+        + match prng.below(4) {
+            0 => 1,
+            1 => room,
+            2 => (prng.word() % room).max(1),
+            _ => (prng.below(4000) as u32 + 1).min(room),
+        };
+    for node in list {
+        if node.is(TransferStartTime) {
+            node.body = Body::Data(start.to_be_bytes().to_vec());
+        } else if node.is(TransferEndTime) {
+            node.body = Body::Data(end.to_be_bytes().to_vec());
+        }
+    }
+}
+
+/// Adds AVPs that the list's * rows and its "+" admit.
+fn extras(list: &mut Vec<Node>, rows: &Rows, depth: usize, prng: &mut Prng) {
+    if !rows.open {
+        return;
+    }
+    let number = match (depth, prng.below(4)) {
+        (1, 0) => prng.below(8),
+        (1, _) => prng.below(4),
+        (_, 0) => prng.below(3),
+        _ => 0,
+    };
+    for _ in 0..number {
+        if let Some(node) = extra(rows, depth, prng) {
+            list.push(node);
+        }
+    }
+}
+
+/// One AVP that such a list admits in any number.
+fn extra(rows: &Rows, depth: usize, prng: &mut Prng) -> Option<Node> {
+    let kind = match prng.below(5) {
+        0 | 1 => return Some(unknown(prng)),
+        2 => prng.pick(&GROUPS),
+        3 => prng.pick(&[
+            ProxyInfo,
+            RouteRecord,
+            SupportedFeatures,
+            Load,
+            RedirectHost,
+            TransferPolicy,
+        ]),
+        _ => prng.pick(Kind::ALL),
+    };
+    if rows.single.has(kind) || (depth > 3 && kind.form() == Form::Group) {
+        return None;
+    }
+    // A further Transfer-Policy in a command's list meets the exchange rules of answers.
+    if kind == TransferPolicy && depth == 1 {
+        return None;
+    }
+    Some(known(kind, depth, prng))
+}
+
+/// Adds short AVPs, anywhere that admits them, until there are `goal`.
+pub fn fill(draft: &mut Draft, goal: usize, prng: &mut Prng) {
+    while draft.count() < goal {
+        let mut node = if prng.one_in(2) { unknown(prng) } else { known(RouteRecord, 1, prng) };
+        if let Body::Data(data) = &mut node.body {
+            data.truncate(6);
+        }
+        let groups: Vec<usize> = (0..draft.list.len())
+            .filter(|&i| {
+                [ProxyInfo, SupportedFeatures, TimeWindow, TransferPolicy]
+                    .iter()
+                    .any(|&kind| draft.list[i].is(kind))
+            })
+            .collect();
+        if groups.is_empty() || !prng.one_in(4) {
+            draft.list.insert(1 + prng.below(draft.list.len()), node);
+        } else if let Body::Members(members) = &mut draft.list[prng.pick(&groups)].body {
+            members.push(node);
+        }
+    }
+}
+
+/// Adds one long AVP that makes the command `goal` octets long, if there is room.
+pub fn stretch(draft: &mut Draft, goal: usize, prng: &mut Prng) {
+    let length = draft.encode().len();
+    if length + 20 > goal || draft.count() >= MOST_AVPS {
+        return;
+    }
+    let mut node = if prng.one_in(2) { unknown(prng) } else { known(RouteRecord, 1, prng) };
+    let header = if node.vendor.is_some() { 12 } else { 8 };
+    let room = goal - length - header - prng.below(4);
+    node.body = Body::Data(prng.octets(room));
+    draft.list.insert(1 + prng.below(draft.list.len()), node);
+}
+
+impl Node {
+    /// Whether this is the named AVP.
+    pub fn is(&self, kind: Kind) -> bool {
+        self.vendor.unwrap_or(0) == kind.vendor() && self.code == kind.code()
+    }
+}

@@ -1,0 +1,381 @@
+//! Every case of 01's "Commands at the edges", its worked book, and the readings.
+
+use second_reader::{data, listing, number, read, search, verdict, Avp, Record, Verdict};
+
+const TGPP: u32 = 10_415;
+
+fn avp(vendor: u32, code: u32, flags: u8, content: &[u8]) -> Vec<u8> {
+    let mut out = code.to_be_bytes().to_vec();
+    let header = if vendor == 0 { 8 } else { 12 };
+    let flags = if vendor == 0 { flags } else { flags | 0x80 };
+    out.extend(((u32::from(flags) << 24) | (header + content.len()) as u32).to_be_bytes());
+    if vendor != 0 {
+        out.extend(vendor.to_be_bytes());
+    }
+    out.extend(content);
+    while !out.len().is_multiple_of(4) {
+        out.push(0);
+    }
+    out
+}
+
+fn plain(code: u32, content: &[u8]) -> Vec<u8> {
+    avp(0, code, 0x40, content)
+}
+
+fn tgpp(code: u32, content: &[u8]) -> Vec<u8> {
+    avp(TGPP, code, 0x40, content)
+}
+
+fn four(value: u32) -> [u8; 4] {
+    value.to_be_bytes()
+}
+
+fn command(flags: u8, avps: &[Vec<u8>]) -> Vec<u8> {
+    let avps = avps.concat();
+    let mut out = (0x0100_0000 | (20 + avps.len()) as u32).to_be_bytes().to_vec();
+    out.extend((u32::from(flags) << 24 | 8_388_723).to_be_bytes());
+    out.extend(four(16_777_348));
+    out.extend([0, 0, 0, 1, 0, 0, 0, 2]);
+    out.extend(avps);
+    out
+}
+
+fn h() -> Vec<u8> {
+    command(0xC0, &[])
+}
+
+fn s_list() -> Vec<Vec<u8>> {
+    vec![
+        plain(263, b"s"),
+        plain(260, &plain(266, &four(TGPP))),
+        plain(277, &four(1)),
+        plain(264, b"o"),
+        plain(296, b"r"),
+        plain(283, b"d"),
+        tgpp(4203, &four(1)),
+        plain(293, b"h"),
+        tgpp(4202, b"i"),
+        tgpp(4208, &four(7)),
+    ]
+}
+
+fn s() -> Vec<u8> {
+    command(0xC0, &s_list())
+}
+
+fn window(start: u32, end: u32) -> Vec<u8> {
+    tgpp(4204, &[tgpp(4206, &four(start)), tgpp(4205, &four(end))].concat())
+}
+
+fn answer_list() -> Vec<Vec<u8>> {
+    vec![
+        plain(263, b"s"),
+        plain(260, &plain(266, &four(TGPP))),
+        plain(277, &four(1)),
+        plain(264, b"o"),
+        plain(296, b"r"),
+        plain(268, &four(2001)),
+    ]
+}
+
+fn policy(members: &[Vec<u8>]) -> Vec<u8> {
+    tgpp(4207, &[vec![tgpp(4208, &four(1))], members.to_vec()].concat().concat())
+}
+
+/// Judges by both ways in, which must agree; a refusal has the empty record.
+fn judge(octets: &[u8]) -> (u32, u32, u32, u32) {
+    let reading = read(octets);
+    assert_eq!(reading.verdict, verdict(octets));
+    if reading.verdict.number != 0 {
+        assert_eq!(reading.record, Record::default());
+    }
+    let Verdict { number, place, vendor, code } = reading.verdict;
+    (number, place, vendor, code)
+}
+
+fn changed(mut octets: Vec<u8>, at: usize, to: &[u8]) -> Vec<u8> {
+    octets[at..at + to.len()].copy_from_slice(to);
+    octets
+}
+
+fn h_with(avp: &[u8]) -> Vec<u8> {
+    command(0xC0, &[avp.to_vec()])
+}
+
+#[test]
+fn header_edges() {
+    assert_eq!(judge(&[]), (5015, 0, 0, 0));
+    assert_eq!(judge(&h()[..19]), (5015, 0, 0, 0));
+    assert_eq!(judge(&h()), (5005, 20, 0, 263));
+    assert_eq!(judge(&changed(h(), 0, &[2])), (5011, 0, 0, 0));
+    assert_eq!(judge(&changed(h(), 1, &[0, 0, 24])), (5015, 1, 0, 0));
+    assert_eq!(judge(&changed(h(), 1, &[0, 0, 16])), (5015, 1, 0, 0));
+    assert_eq!(judge(&changed(h(), 8, &four(16_777_346))), (3007, 8, 0, 0));
+    assert_eq!(judge(&changed(h(), 5, &[0, 0, 1])), (3001, 5, 0, 0));
+    assert_eq!(judge(&changed(changed(h(), 5, &[0, 0, 1]), 8, &four(1))), (3007, 8, 0, 0));
+    assert_eq!(judge(&changed(h(), 4, &[0xE0])), (3008, 4, 0, 0));
+    assert_eq!(judge(&changed(h(), 4, &[0x60])), (7005, 4, 0, 0));
+    assert_eq!(judge(&changed(h(), 4, &[0x20])), (3008, 4, 0, 0));
+    assert_eq!(judge(&changed(h(), 4, &[0x80])), (3008, 4, 0, 0));
+    assert_eq!(judge(&changed(h(), 4, &[0xDF])), (5005, 20, 0, 263));
+}
+
+#[test]
+fn avp_edges() {
+    let raw = |flags: u8, length: u8, code: u32| {
+        let mut avp = four(code).to_vec();
+        avp.extend([flags, 0, 0, length]);
+        h_with(&avp)
+    };
+    assert_eq!(judge(&raw(0x40, 7, 263)), (5014, 20, 0, 263));
+    assert_eq!(judge(&raw(0x41, 8, 263)), (3009, 20, 0, 263));
+    assert_eq!(judge(&raw(0x40, 8, 9999)), (5001, 20, 0, 9999));
+    assert_eq!(judge(&raw(0x00, 8, 9999)), (5005, 28, 0, 263));
+    assert_eq!(judge(&raw(0xC0, 8, 263)), (5014, 20, 0, 263));
+    assert_eq!(judge(&raw(0x00, 8, 263)), (3009, 20, 0, 263));
+    assert_eq!(judge(&h_with(&[0, 0, 1, 7])), (5014, 20, 0, 0));
+    // V with 12 octets left and a length below 12: both names.
+    let low = changed(avp(TGPP, 4203, 0x40, b""), 7, &[11]);
+    assert_eq!(judge(&h_with(&low)), (5014, 20, TGPP, 4203));
+    // V with vendor 0.
+    let zero = changed(avp(TGPP, 9999, 0, b""), 8, &four(0));
+    assert_eq!(judge(&h_with(&zero)), (3009, 20, 0, 9999));
+    // 4203 without V is unknown.
+    assert_eq!(judge(&h_with(&plain(4203, &four(1)))), (5001, 20, 0, 4203));
+    // A width.
+    assert_eq!(judge(&h_with(&plain(277, &[0; 8]))), (5014, 20, 0, 277));
+    assert_eq!(judge(&h_with(&plain(414, &[0; 4]))), (5014, 20, 0, 414));
+}
+
+#[test]
+fn s_and_its_neighbours() {
+    let s = s();
+    assert_eq!(s.len(), 160);
+    assert_eq!(judge(&s), (0, 0, 0, 0));
+    let record = read(&s).record;
+    assert_eq!(record.avps.len(), 11);
+    assert_eq!((record.r, record.p, record.e, record.t), (true, true, false, false));
+    assert_eq!((record.hop_by_hop, record.end_to_end), (1, 2));
+    assert_eq!(
+        record.avps[2],
+        Avp { depth: 2, vendor: 0, code: 266, m: true, p: false, start: 48, length: 4 }
+    );
+    let mut list = s_list();
+    list.pop();
+    assert_eq!(judge(&command(0xC0, &list)), (5005, 144, TGPP, 4208));
+    let mut list = s_list();
+    list[6] = tgpp(4203, &four(2));
+    assert_eq!(judge(&command(0xC0, &list)), (5004, 100, TGPP, 4203));
+}
+
+#[test]
+fn windows() {
+    for (start, end, accepted) in
+        [(10, 10, false), (10, 11, true), (11, 10, false), (0x7FFF_FFFF, 0x8000_0000, true)]
+    {
+        let mut list = s_list();
+        list.push(window(start, end));
+        let expected = if accepted { (0, 0, 0, 0) } else { (5004, 188, TGPP, 4205) };
+        assert_eq!(judge(&command(0xC0, &list)), expected);
+    }
+    // The outer of two nested windows starts first, though it ends last.
+    let inner = window(5, 5);
+    let outer = tgpp(4204, &[inner, tgpp(4205, &four(1)), tgpp(4206, &four(1))].concat());
+    let mut list = s_list();
+    list.push(outer);
+    assert_eq!(judge(&command(0xC0, &list)), (5004, 160 + 12 + 44, TGPP, 4205));
+}
+
+#[test]
+fn limits() {
+    let crowded = |more: usize| {
+        let mut list = s_list();
+        list.extend(std::iter::repeat_n(plain(282, b""), more));
+        command(0xC0, &list)
+    };
+    assert_eq!(judge(&crowded(245)), (0, 0, 0, 0));
+    assert_eq!(read(&crowded(245)).record.avps.len(), 256);
+    assert_eq!(judge(&crowded(246)), (7002, 160 + 245 * 8, 0, 0));
+    // Stray octets after 256 AVPs are a 257th.
+    let mut stray = crowded(245);
+    stray.extend([0; 4]);
+    let length = stray.len() as u32;
+    assert_eq!(judge(&changed(stray, 1, &four(length)[1..])), (7002, 160 + 245 * 8, 0, 0));
+    let long = |length: usize| {
+        let mut list = s_list();
+        list.push(plain(282, &vec![0; length - 160 - 8]));
+        command(0xC0, &list)
+    };
+    assert_eq!(judge(&long(16_384)), (0, 0, 0, 0));
+    assert_eq!(judge(&long(16_388)), (7001, 1, 0, 0));
+}
+
+#[test]
+fn depth() {
+    let proxy =
+        |inner: &[u8]| plain(284, &[plain(280, b"h"), plain(33, b"s"), inner.to_vec()].concat());
+    let with = |group: Vec<u8>| {
+        let mut list = s_list();
+        list.push(group);
+        command(0xC0, &list)
+    };
+    assert_eq!(judge(&with(proxy(&proxy(&proxy(b""))))), (0, 0, 0, 0));
+    let deepest = plain(284, b"");
+    assert_eq!(judge(&with(proxy(&proxy(&proxy(&deepest))))), (7003, 160 + 3 * 32, 0, 284));
+}
+
+#[test]
+fn rows() {
+    // 263 not first; twice; none.
+    let mut list = s_list();
+    list.swap(0, 1);
+    assert_eq!(judge(&command(0xC0, &list)), (5008, 40, 0, 263));
+    let mut list = s_list();
+    list.push(plain(263, b"s"));
+    assert_eq!(judge(&command(0xC0, &list)), (5009, 160, 0, 263));
+    assert_eq!(judge(&command(0xC0, &s_list()[1..])), (5005, 148, 0, 263));
+    // A row fault of the command's list goes before one of a group, and a later 5014 before both.
+    let mut list = s_list();
+    list[1] = plain(260, b"");
+    assert_eq!(judge(&command(0xC0, &list)), (5005, 40, 0, 266));
+    list.push(plain(277, &four(1)));
+    assert_eq!(judge(&command(0xC0, &list)), (5009, 148, 0, 277));
+    list.push(plain(277, b"123"));
+    assert_eq!(judge(&command(0xC0, &list)), (5014, 160, 0, 277));
+    // An outer group's fault goes before an inner one's.
+    let mut list = s_list();
+    list.push(plain(284, &[plain(284, b""), plain(280, b"h")].concat()));
+    assert_eq!(judge(&command(0xC0, &list)), (5005, 160 + 28, 0, 33));
+    // Nothing else in 260.
+    let mut list = s_list();
+    let members = [plain(266, &four(1)), avp(0, 9999, 0, b"")].concat();
+    list[1] = plain(260, &members);
+    assert_eq!(judge(&command(0xC0, &list)), (5008, 52, 0, 9999));
+}
+
+#[test]
+fn requests() {
+    let mut list = s_list();
+    list[6] = tgpp(4203, &four(0));
+    for (row, vendor, code) in [
+        (tgpp(532, b"a"), TGPP, 532),
+        (plain(421, &[0; 8]), 0, 414),
+        (tgpp(4209, &four(1)), TGPP, 4209),
+        (window(1, 2), TGPP, 4204),
+    ] {
+        let octets = command(0xC0, &list);
+        assert_eq!(judge(&octets), (5005, octets.len() as u32, vendor, code));
+        list.push(row);
+    }
+    assert_eq!(judge(&command(0xC0, &list)), (0, 0, 0, 0));
+    for (row, vendor, code) in [(8, TGPP, 4202), (9, TGPP, 4208), (7, 0, 293)] {
+        let mut list = s_list();
+        list.remove(row);
+        let octets = command(0xC0, &list);
+        assert_eq!(judge(&octets), (5005, octets.len() as u32, vendor, code));
+    }
+}
+
+#[test]
+fn answers() {
+    assert_eq!(judge(&command(0x40, &answer_list())), (0, 0, 0, 0));
+    assert_eq!(judge(&command(0x50, &answer_list())), (0, 0, 0, 0));
+    let mut list = answer_list();
+    list.pop();
+    let octets = command(0x40, &list);
+    assert_eq!(judge(&octets), (5005, octets.len() as u32, 0, 268));
+    let mut list = answer_list();
+    let place = command(0x40, &list).len() as u32;
+    list.push(plain(297, &[plain(266, &four(1)), plain(298, &four(1))].concat()));
+    assert_eq!(judge(&command(0x40, &list)), (5008, place, 0, 297));
+
+    let mut list = answer_list();
+    list.push(policy(&[]));
+    let end = command(0x40, &list).len() as u32;
+    assert_eq!(judge(&command(0x40, &list)), (5005, end, TGPP, 4202));
+    list.push(tgpp(4202, b"i"));
+    assert_eq!(judge(&command(0x40, &list)), (5005, end, TGPP, 4204));
+    list[6] = policy(&[window(1, 2)]);
+    let end = command(0x40, &list[..7]).len() as u32;
+    assert_eq!(judge(&command(0x40, &list)), (5005, end, 0, 432));
+    list[6] = policy(&[window(1, 2), plain(432, &four(1))]);
+    assert_eq!(judge(&command(0x40, &list)), (0, 0, 0, 0));
+    list.push(policy(&[plain(432, &four(1))]));
+    let end = command(0x40, &list).len() as u32;
+    assert_eq!(judge(&command(0x40, &list)), (5005, end, TGPP, 2207));
+    list.push(avp(TGPP, 2207, 0, b"a"));
+    assert_eq!(judge(&command(0x40, &list)), (5005, end, TGPP, 4204));
+}
+
+#[test]
+fn looks_right_and_is_not() {
+    // A group's length that leaves out its last member's padding.
+    let mut list = s_list();
+    let mut group = plain(284, &[plain(33, b"long"), plain(280, b"h")].concat());
+    group[7] -= 3;
+    list.push(group);
+    assert_eq!(judge(&command(0xC0, &list)), (5014, 180, 0, 280));
+    // Failed-AVP is not looked into.
+    let mut list = answer_list();
+    list.push(plain(279, &[0xFF; 9]));
+    assert_eq!(judge(&command(0x40, &list)), (0, 0, 0, 0));
+}
+
+#[test]
+fn record_parts() {
+    let s = s();
+    let mut record = read(&s).record;
+    assert_eq!(data(&record, 2, &s), four(TGPP));
+    assert_eq!(data(&record, 1, &s).len(), 12);
+    assert_eq!(data(&record, 11, &s), b"");
+    assert_eq!(data(&record, 10, &s[..159]), b"");
+    assert_eq!(search(&record, TGPP, 4208), Some(10));
+    assert_eq!(search(&record, 0, 266), None);
+    assert_eq!(search(&record, 0, 4208), None);
+    record.avps[3].start = u32::MAX;
+    record.avps[3].length = u32::MAX;
+    assert_eq!(data(&record, 3, &s), b"");
+    // A count above 256 is read as 256.
+    record.avps.resize(256, Avp::default());
+    record.avps.push(Avp { depth: 1, vendor: 0, code: 5, m: false, p: false, start: 0, length: 1 });
+    assert_eq!(search(&record, 0, 5), None);
+    assert_eq!(data(&record, 256, &s), b"");
+}
+
+#[test]
+fn books() {
+    let book = |commands: &[Vec<u8>]| [b"NTB\x00\x01".to_vec(), commands.concat()].concat();
+    assert_eq!(listing(&book(&[h()])), b"NTB 1\n1 5 5005 20 0 263\nend 1 0\n");
+    let two = listing(&book(&[s(), h()]));
+    assert_eq!(two, b"NTB 1\n1 5 0 0 0 0\n2 165 5005 20 0 263\nend 2 1\n");
+    assert_eq!(listing(&book(&[])), b"NTB 1\nend 0 0\n");
+    for stray in [vec![1], vec![1, 0, 0], vec![1, 0, 0, 19], vec![1, 0, 0, 20, 0, 0]] {
+        assert_eq!(listing(&book(&[h(), stray])), b"NTB 1\n1 5 5005 20 0 263\n2 25 cut\n");
+    }
+    for other in [&b""[..], b"NTB", b"NTB\x00\x02", b"NTb\x00\x01"] {
+        assert_eq!(listing(other), b"not a book\n");
+    }
+    let odd = changed([h(), vec![0]].concat(), 3, &[21]);
+    assert_eq!(listing(&book(&[odd])), b"NTB 1\n1 5 5015 1 0 0\nend 1 0\n");
+    let full = changed(vec![1; 65_531], 0, &four(0x0100_0000 | 65_531));
+    assert_eq!(listing(&book(std::slice::from_ref(&full))), b"NTB 1\n1 5 5015 1 0 0\nend 1 0\n");
+    assert_eq!(listing(&book(&[full, vec![0]])), b"not a book\n");
+}
+
+#[test]
+fn generated() {
+    use second_reader::generate::{command, sound, Prng};
+    let mut prng = Prng::new(7);
+    for _ in 0..20_000 {
+        let octets = sound(&mut prng).encode();
+        let number = judge(&octets).0;
+        let limit = [number::COMMAND_TOO_LONG, number::TOO_MANY_AVPS].contains(&number);
+        assert!(number == 0 || limit, "{number}: {octets:02X?}");
+    }
+    let mut met = std::collections::BTreeSet::new();
+    for _ in 0..100_000 {
+        met.insert(judge(&command(&mut prng)).0);
+    }
+    assert_eq!(met.into_iter().collect::<Vec<_>>(), number::ALL);
+}
