@@ -7,6 +7,7 @@ use crate::rows;
 use crate::verdict::{number, Verdict};
 use std::collections::BTreeMap;
 use std::fmt::{self, Display, Formatter};
+use std::ops::RangeInclusive;
 
 /// Counts of answers.
 #[derive(Debug, Default)]
@@ -23,6 +24,7 @@ pub struct Coverage {
     by_depth: BTreeMap<(u32, u8), u64>,
     by_name: BTreeMap<(u32, u32, u32), u64>,
     by_place: BTreeMap<(u32, u32), u64>,
+    by_name_and_depth: BTreeMap<(u32, u32, u32, u8), u64>,
     accepted_by_depth: BTreeMap<u8, u64>,
     requests: u64,
     most_avps: usize,
@@ -42,6 +44,8 @@ impl Coverage {
             _ => {
                 let depth = depth(octets, verdict);
                 *self.by_depth.entry((verdict.number, depth)).or_default() += 1;
+                let named = (verdict.number, verdict.vendor, verdict.code, depth);
+                *self.by_name_and_depth.entry(named).or_default() += 1;
             }
         }
         let named = Kind::of(verdict.vendor, verdict.code).is_some();
@@ -52,6 +56,22 @@ impl Coverage {
             _ => (verdict.number, verdict.vendor, verdict.code),
         };
         *self.by_name.entry(name).or_default() += 1;
+    }
+
+    /// How often a number occurred.
+    pub(crate) fn times(&self, number: u32) -> u64 {
+        self.by_number.get(&number).copied().unwrap_or(0)
+    }
+
+    /// How often a number occurred at a depth.
+    pub(crate) fn times_at(&self, number: u32, depth: u8) -> u64 {
+        self.by_depth.get(&(number, depth)).copied().unwrap_or(0)
+    }
+
+    /// How often a number occurred with this name at one of these depths.
+    pub(crate) fn times_named(&self, number: u32, kind: Kind, mut depths: RangeInclusive<u8>) -> u64 {
+        let times = |depth| self.by_name_and_depth.get(&(number, kind.vendor(), kind.code(), depth));
+        depths.by_ref().filter_map(times).sum()
     }
 
     fn accepted(&mut self, octets: &[u8]) {

@@ -9,6 +9,7 @@ mod book;
 pub mod coverage;
 pub mod dictionary;
 mod exchange;
+mod gaps;
 pub mod generate;
 mod header;
 mod record;

@@ -1,0 +1,131 @@
+//! Compares the proved reader, over its boundary, with the second reader on generated commands: the verdict, the whole record,
+//! the data of every position and the search.
+//!
+//! `compare SEED COMMANDS` ends with a table of what was reached. It exits 1 at the first difference, with the command in
+//! hexadecimal, or where a cell of the table is empty.
+
+use second_reader::coverage::Coverage;
+use second_reader::generate::{command, Prng};
+use std::fmt::Debug;
+use std::process::ExitCode;
+
+/// Names that are looked for in every command: of both commands' lists, of groups alone, and of no AVP.
+const NAMES: [(u32, u32); 8] = [
+    (0, 263),
+    (0, 268),
+    (0, 266),
+    (0, 4203),
+    (10415, 4203),
+    (10415, 4205),
+    (10415, 4207),
+    (9, 9),
+];
+
+fn main() -> ExitCode {
+    let arguments: Vec<String> = std::env::args().skip(1).collect();
+    let [seed, commands] = arguments.as_slice() else {
+        return usage();
+    };
+    let (Ok(seed), Ok(commands)) = (seed.parse(), commands.parse::<u64>()) else {
+        return usage();
+    };
+    let mut prng = Prng::new(seed);
+    let mut reader = talazumir::Reader::new();
+    let mut coverage = Coverage::default();
+    for ordinal in 1..=commands {
+        let octets = shortened(command(&mut prng), &mut prng);
+        if let Err(difference) = compare(&octets, &mut reader) {
+            println!("seed {seed}, command {ordinal}: {difference}");
+            println!("{}", octets.iter().map(|octet| format!("{octet:02x}")).collect::<String>());
+            return ExitCode::FAILURE;
+        }
+        coverage.note(&octets, &second_reader::verdict(&octets));
+    }
+    print!("{coverage}");
+    let gaps = coverage.gaps();
+    for gap in &gaps {
+        println!("not reached: {gap}");
+    }
+    if gaps.is_empty() {
+        ExitCode::SUCCESS
+    } else {
+        ExitCode::FAILURE
+    }
+}
+
+fn usage() -> ExitCode {
+    eprintln!("compare SEED COMMANDS");
+    ExitCode::from(2)
+}
+
+/// One command in fifty loses some octets at its end, so that its length field is not the slice's length.
+fn shortened(mut octets: Vec<u8>, prng: &mut Prng) -> Vec<u8> {
+    if prng.one_in(50) {
+        octets.truncate(prng.below(octets.len()));
+    }
+    octets
+}
+
+/// What differs, in words.
+fn compare(octets: &[u8], reader: &mut talazumir::Reader) -> Result<(), String> {
+    let expected = second_reader::read(octets);
+    let verdict = numbers(&expected.verdict);
+    let ours = reader.verdict(octets);
+    same("verdict", (ours.number, ours.place, ours.vendor, ours.code), verdict)?;
+    match talazumir::read(octets) {
+        Ok(record) => {
+            same("number", 0, expected.verdict.number)?;
+            compare_records(&record, &expected.record, octets)
+        }
+        Err(refusal) => {
+            same("refusal", (refusal.number, refusal.place, refusal.vendor, refusal.code), verdict)
+        }
+    }
+}
+
+fn numbers(verdict: &second_reader::Verdict) -> (u32, u32, u32, u32) {
+    (verdict.number, verdict.place, verdict.vendor, verdict.code)
+}
+
+fn compare_records(
+    ours: &talazumir::Record,
+    expected: &second_reader::Record,
+    octets: &[u8],
+) -> Result<(), String> {
+    same("R", ours.is_request(), expected.r)?;
+    same("P", ours.is_proxiable(), expected.p)?;
+    same("E", ours.is_error(), expected.e)?;
+    same("T", ours.is_retransmitted(), expected.t)?;
+    same("hop-by-hop", ours.hop_by_hop(), expected.hop_by_hop)?;
+    same("end-to-end", ours.end_to_end(), expected.end_to_end)?;
+    same("count", ours.count(), expected.avps.len())?;
+    for (position, (a, b)) in ours.avps().zip(&expected.avps).enumerate() {
+        let a = (a.depth, a.vendor, a.code, a.m, a.p, a.start, a.length);
+        let b = (u32::from(b.depth), b.vendor, b.code, b.m, b.p, b.start, b.length);
+        same(&format!("position {position}"), a, b)?;
+    }
+    let unused = &ours.numbers()[7 + 7 * ours.count()..];
+    same("unused places", unused.iter().all(|&number| number == 0), true)?;
+    let half = &octets[..octets.len() / 2];
+    for position in (0..=ours.count()).chain([256, usize::MAX]) {
+        for slice in [octets, half] {
+            let a = ours.data(position, slice);
+            let b = second_reader::data(expected, position, slice);
+            same(&format!("data of position {position}"), a, b)?;
+            same(&format!("place of the data of position {position}"), a.as_ptr(), b.as_ptr())?;
+        }
+    }
+    let there = expected.avps.iter().map(|avp| (avp.vendor, avp.code));
+    for (vendor, code) in there.chain(NAMES) {
+        let a = ours.search(vendor, code);
+        same(&format!("search of {vendor} {code}"), a, second_reader::search(expected, vendor, code))?;
+    }
+    Ok(())
+}
+
+fn same<T: PartialEq + Debug>(what: &str, ours: T, expected: T) -> Result<(), String> {
+    if ours == expected {
+        return Ok(());
+    }
+    Err(format!("{what}: the proved reader has {ours:?}, the second reader {expected:?}"))
+}

@@ -1,0 +1,91 @@
+//! What a run must have reached: each number, each of the walk's checks at each depth, each row's missing and exceeding, and
+//! each exchange rule. A run that lacks one has tested less than it says.
+
+use crate::coverage::Coverage;
+use crate::dictionary::Kind;
+use crate::rows::{self, Rows};
+use crate::verdict::number;
+use std::ops::RangeInclusive;
+
+/// The depth of a command's own list, and those of a group's members.
+const OWN: RangeInclusive<u8> = 1..=1;
+const WITHIN: RangeInclusive<u8> = 2..=4;
+
+/// The exchange rules: number, the AVP that it names, and the depth of the list.
+const EXCHANGE: [(u32, Kind, RangeInclusive<u8>); 13] = [
+    (number::MISSING_AVP, Kind::ApplicationServiceProviderIdentity, OWN),
+    (number::MISSING_AVP, Kind::CcOutputOctets, OWN),
+    (number::MISSING_AVP, Kind::NumberOfUes, OWN),
+    (number::MISSING_AVP, Kind::TimeWindow, OWN),
+    (number::MISSING_AVP, Kind::ReferenceId, OWN),
+    (number::MISSING_AVP, Kind::TransferPolicyId, OWN),
+    (number::MISSING_AVP, Kind::DestinationHost, OWN),
+    (number::MISSING_AVP, Kind::ResultCode, OWN),
+    (number::AVP_NOT_ALLOWED, Kind::ExperimentalResult, OWN),
+    (number::MISSING_AVP, Kind::PcrfAddress, OWN),
+    (number::MISSING_AVP, Kind::TimeWindow, WITHIN),
+    (number::MISSING_AVP, Kind::RatingGroup, WITHIN),
+    (number::INVALID_AVP_VALUE, Kind::TransferEndTime, WITHIN),
+];
+
+/// The numbers of the walk's checks, and the depths at which each can stop a walk.
+const CHECKS: [(u32, RangeInclusive<u8>); 6] = [
+    (number::TOO_MANY_AVPS, 1..=4),
+    (number::INVALID_AVP_LENGTH, 1..=4),
+    (number::INVALID_AVP_BITS, 1..=4),
+    (number::AVP_UNSUPPORTED, 1..=4),
+    (number::INVALID_AVP_VALUE, 1..=4),
+    (number::GROUP_TOO_DEEP, 4..=4),
+];
+
+impl Coverage {
+    /// The cells that no command reached.
+    pub fn gaps(&self) -> Vec<String> {
+        let mut gaps = Vec::new();
+        for number in number::ALL {
+            if self.times(number) == 0 {
+                gaps.push(format!("number {number}"));
+            }
+        }
+        for (number, depths) in CHECKS {
+            for depth in depths {
+                if self.times_at(number, depth) == 0 {
+                    gaps.push(format!("{number} at depth {depth}"));
+                }
+            }
+        }
+        self.row_gaps("BTR", &rows::BTR, OWN, &mut gaps);
+        self.row_gaps("BTA", &rows::BTA, OWN, &mut gaps);
+        for &kind in Kind::ALL {
+            if let Some(rows) = rows::of_group(kind) {
+                self.row_gaps(&kind.code().to_string(), rows, WITHIN, &mut gaps);
+            }
+        }
+        for (number, kind, depths) in EXCHANGE {
+            if self.times_named(number, kind, depths) == 0 {
+                gaps.push(format!("exchange rule {number} for {}", kind.code()));
+            }
+        }
+        gaps
+    }
+
+    fn row_gaps(
+        &self,
+        list: &str,
+        rows: &Rows,
+        depths: RangeInclusive<u8>,
+        gaps: &mut Vec<String>,
+    ) {
+        for &kind in Kind::ALL {
+            let missing = self.times_named(number::MISSING_AVP, kind, depths.clone());
+            if rows.needed.has(kind) && missing == 0 {
+                gaps.push(format!("{list}: {} missing", kind.code()));
+            }
+            let exceeding =
+                self.times_named(number::AVP_OCCURS_TOO_MANY_TIMES, kind, depths.clone());
+            if rows.single.has(kind) && exceeding == 0 {
+                gaps.push(format!("{list}: {} exceeding", kind.code()));
+            }
+        }
+    }
+}
