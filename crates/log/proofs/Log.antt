@@ -96,9 +96,11 @@ avps-at log count i h k =
 seven : Avp → List ℕ
 seven a = a .depth ∷ a .vendor ∷ a .code ∷ bit (a .m) ∷ bit (a .p) ∷ a .start ∷ endOf a ∷ []
 
-numbers-sets : (log : List ℕ) (at : ℕ) (a : Avp) → numbersAt log at a ≡ sets log at (seven a)
-unfolding seven
-numbers-sets log at a =
+-- seven numbers set one after the other
+pub sets-seven : (l : List ℕ) (at a b c d e f g : ℕ)
+    → set (set (set (set (set (set (set l at a) (at + 1) b) (at + 2) c) (at + 3) d) (at + 4) e) (at + 5) f) (at + 6) g
+    ≡ sets l at (a ∷ b ∷ c ∷ d ∷ e ∷ f ∷ g ∷ [])
+sets-seven l at a b c d e f g =
     let e1 : at + 1 ≡ suc at = omega arith in
     let e2 : at + 2 ≡ suc (suc at) = omega arith in
     let e3 : at + 3 ≡ suc (suc (suc at)) = omega arith in
@@ -106,6 +108,10 @@ numbers-sets log at a =
     let e5 : at + 5 ≡ suc (suc (suc (suc (suc at)))) = omega arith in
     let e6 : at + 6 ≡ suc (suc (suc (suc (suc (suc at))))) = omega arith in
     rw (e1, e2, e3, e4, e5, e6)
+
+numbers-sets : (log : List ℕ) (at : ℕ) (a : Avp) → numbersAt log at a ≡ sets log at (seven a)
+unfolding seven
+numbers-sets log at a = sets-seven log at (a .depth) (a .vendor) (a .code) (bit (a .m)) (bit (a .p)) (a .start) (endOf a)
 
 length-numbers : (log : List ℕ) (at : ℕ) (a : Avp) → length (numbersAt log at a) ≡ length log
 length-numbers log at a = simp length-set
@@ -119,7 +125,7 @@ module _ (log : List ℕ) (at : ℕ) (a : Avp) (room : at + 7 ≤ length log) wh
       ∙ ap (λ (n : ℕ). getD (take at log ++ (seven a ++ drop (at + 7) log)) (n + k) 0) (sym e)
       ∙ getD-append-add (take at log) (seven a ++ drop (at + 7) log) k 0
 
-bit-back : (b : Bool) → eqb (bit b) 1 ≡ b
+pub bit-back : (b : Bool) → eqb (bit b) 1 ≡ b
 bit-back true = refl
 bit-back false = refl
 

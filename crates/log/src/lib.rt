@@ -7,7 +7,8 @@ ghost use Rattle.rules.specs.Avp.{endOf};
 ghost use Rattle.log.specs.Log.{bit, putAvp, avpOf};
 use rules::Avp;
 
-fn bit_of(flag: bool) -> u32
+// A flag as a number.
+pub fn bit_of(flag: bool) -> u32
     ensures { λ r. ⌜ r ≡ bit flag ⌝ }
 {
     if flag {
@@ -26,7 +27,8 @@ fn length_of(start: u32, end: u32) -> u32
     end - start
 }
 
-fn length(numbers: &[u32]) -> usize
+// How many numbers a slice holds.
+pub fn length(numbers: &[u32]) -> usize
     ensures { λ r. ⌜ r ≡ length (now (numbers .entry)) ⌝ }
 {
     numbers.len()

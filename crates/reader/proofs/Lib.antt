@@ -1,3 +1,4 @@
--- The laws behind the reader's proofs: a record's places and searches, and a command's checks in order.
-mod Places
+-- The laws behind the reader's proofs: a record's places and searches, which other crates cite, and a command's checks in
+-- order.
+pub mod Places
 mod Order

@@ -12,6 +12,7 @@ mod judge;
 mod record;
 
 pub use record::data;
+pub use record::is_found;
 pub use record::search;
 
 // What judging a command gives: the outcome of its checks, and for an accepted one how many AVPs stand in the log.

@@ -73,7 +73,8 @@ pub(crate) fn record_of(s: &[u8], log: &[u32; 1792], count: usize) -> Record
     }
 }
 
-fn is_found(a: Avp, vendor: u32, code: u32) -> bool
+// What a search looks for: an AVP at depth 1 with a vendor and code.
+pub fn is_found(a: Avp, vendor: u32, code: u32) -> bool
     ensures { λ r. ⌜ r ≡ (eqb (a .depth) 1 && named a vendor code) ⌝ }
 {
     if a.depth != 1 {

@@ -6,6 +6,7 @@ pub mod limits;
 
 // What comes back for a command (01, What comes back): the number, 0 where it is accepted, the place, and the Vendor-Id
 // and code of the AVP at fault.
+#[repr(C)]
 pub struct Verdict {
     pub number: u32,
     pub place: u32,

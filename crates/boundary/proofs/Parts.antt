@@ -1,0 +1,84 @@
+-- Laws of what is read from a record as numbers: the part of a position's data, and a search place by place.
+use mathlib.Core.Path.{_≡_, sym, ap, _∙_}
+use mathlib.Core.Bool.{true, false, _&&_}
+use mathlib.Core.List.{List, []}
+use Prim.Native.Nat.{ℕ, _+_, _≤_, _<_, min}
+use native.Mathlib.Omega.{arith}
+use borrow.Author.Tests.{lt-ltb, le-ltb, le-leb, lt-leb}
+use lib.Dec.{eqb}
+use lib.ListN.{length, take, drop}
+use Rattle.rules.specs.declared.Avp.{Avp}
+use Rattle.rules.specs.Avp.{named}
+use Rattle.rules.specs.Search.{avpIn}
+use Rattle.reader.proofs.Places.{data-unused, data-outside, data-inside, searchLeft, search-all, search-end, search-here, search-later}
+use Rattle.boundary.specs.Numbers.{avpAt, countOf, recordOf}
+use Rattle.boundary.specs.Parts.{part, noPart, partAt, IsData, positionOf, searchNumbers}
+use Rattle.boundary.proofs.Numbers.{avps-full, avp-in, count-in}
+
+module _ (numbers : List ℕ) (i : ℕ) (s : List ℕ) where
+  pub part-unused : min (countOf numbers) 256 ≤ i → IsData numbers i s noPart
+  unfolding partAt
+  part-unused h =
+      let k : min (recordOf numbers .count) 256 ≤ i = rw (count-in numbers) h in
+      record { is = rw (le-ltb i (min (countOf numbers) 256) h); octets = sym (data-unused (recordOf numbers) i s k) }
+
+  module _ (used : i < min (countOf numbers) 256) where
+    same : avpIn (recordOf numbers .avps) i ≡ avpAt numbers i
+    same = avp-in numbers i (omega arith)
+
+    in-record : i < min (recordOf numbers .count) 256
+    in-record = rw (count-in numbers) used
+
+    pub part-outside : length s < avpAt numbers i .start + avpAt numbers i .length → IsData numbers i s noPart
+    unfolding partAt
+    part-outside h =
+        let k : length s < avpIn (recordOf numbers .avps) i .start + avpIn (recordOf numbers .avps) i .length =
+        rw same h in
+        record {
+          is = rw (lt-ltb i (min (countOf numbers) 256) used, lt-leb (avpAt numbers i .start + avpAt numbers i .length) (length s) h);
+          octets = sym (data-outside (recordOf numbers) i s in-record k);
+        }
+
+    pub part-inside : avpAt numbers i .start + avpAt numbers i .length ≤ length s
+        → IsData numbers i s (part (avpAt numbers i .start) (avpAt numbers i .length))
+    unfolding partAt
+    part-inside h =
+        let k : avpIn (recordOf numbers .avps) i .start + avpIn (recordOf numbers .avps) i .length ≤ length s = rw same h in
+        record {
+          is = rw (lt-ltb i (min (countOf numbers) 256) used, le-leb (avpAt numbers i .start + avpAt numbers i .length) (length s) h);
+          octets =
+              ap (λ (a : Avp). take (a .length) (drop (a .start) s)) (sym same)
+              ∙ sym (data-inside (recordOf numbers) i s in-record k);
+        }
+
+-- ---- a search place by place
+
+module _ (numbers : List ℕ) (vendor code : ℕ) where
+  -- what is left of the search at place i
+  abbrev pub positionLeft : ℕ → ℕ
+  positionLeft i = positionOf (searchLeft (recordOf numbers) (avps-full numbers) vendor code i)
+
+  pub position-all : positionLeft 0 ≡ searchNumbers numbers vendor code
+  unfolding searchNumbers
+  position-all = ap positionOf (search-all (recordOf numbers) (avps-full numbers) vendor code)
+
+  pub position-end : (i : ℕ) → min (countOf numbers) 256 ≤ i → positionLeft i ≡ 256
+  position-end i h =
+      let k : min (recordOf numbers .count) 256 ≤ i = rw (count-in numbers) h in
+      ap positionOf (search-end (recordOf numbers) (avps-full numbers) vendor code i k)
+
+  module _ (i : ℕ) (used : i < min (countOf numbers) 256) (a : Avp) (is : a ≡ avpAt numbers i) where
+    at : avpIn (recordOf numbers .avps) i ≡ a
+    at = same numbers i [] used ∙ sym is
+
+    pub position-here : (eqb (a .depth) 1 && named a vendor code) ≡ true → positionLeft i ≡ i
+    position-here e =
+        let k : (eqb (avpIn (recordOf numbers .avps) i .depth) 1 && named (avpIn (recordOf numbers .avps) i) vendor code) ≡ true =
+        ap (λ (x : Avp). eqb (x .depth) 1 && named x vendor code) at ∙ e in
+        ap positionOf (search-here (recordOf numbers) (avps-full numbers) vendor code i (in-record numbers i [] used) k)
+
+    pub position-later : (eqb (a .depth) 1 && named a vendor code) ≡ false → positionLeft i ≡ positionLeft (i + 1)
+    position-later e =
+        let k : (eqb (avpIn (recordOf numbers .avps) i .depth) 1 && named (avpIn (recordOf numbers .avps) i) vendor code) ≡ false =
+        ap (λ (x : Avp). eqb (x .depth) 1 && named x vendor code) at ∙ e in
+        ap positionOf (search-later (recordOf numbers) (avps-full numbers) vendor code i (in-record numbers i [] used) k)

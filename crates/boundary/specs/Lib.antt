@@ -1,0 +1,3 @@
+-- The record as numbers, and what is read from them.
+pub mod Numbers
+pub mod Parts

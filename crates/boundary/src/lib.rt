@@ -1,0 +1,73 @@
+// The boundary for C and Rust callers: the verdict, the record as numbers, the data of a position, and the search.
+// include/talazumir.h says the same in C's terms.
+ghost use mathlib.Core.Path.{_≡_};
+ghost use Rattle.reader.specs.Promise.{Judged};
+ghost use Rattle.boundary.specs.Parts.{IsRead, IsData, searchNumbers};
+use rules::Verdict;
+
+mod record;
+
+// A part of a slice, by its start and its length.
+#[repr(C)]
+pub struct Part {
+    pub start: usize,
+    pub length: usize,
+}
+
+// The verdict of a command, its walk in a lent log.
+#[no_mangle]
+pub extern "C" fn talazumir_verdict(s: &[u8], log: &mut [u32; 1792]) -> Verdict
+    ensures { λ r. ⌜ Judged (now (s .entry)) (now (log .entry)) r (now (log .exit)) ⌝ }
+{
+    reader::verdict(s, log)
+}
+
+// The verdict of a command, and its record as numbers; all 0 with a refusal.
+#[no_mangle]
+pub extern "C" fn talazumir_read(s: &[u8], numbers: &mut [u32; 1799]) -> Verdict
+    ensures { λ r. ⌜ IsRead (now (s .entry)) r (now (numbers .exit)) ⌝ }
+{
+    let reading = reader::read(s);
+    record::put(numbers, reading.record);
+    reading.verdict
+}
+
+// The part of a slice that is the data of the AVP at a position; the empty part at 0 where the position is unused or the
+// part does not lie in the slice.
+#[no_mangle]
+pub extern "C" fn talazumir_data(numbers: &[u32; 1799], position: usize, s: &[u8]) -> Part
+    ensures { λ r. ⌜ IsData (now (numbers .entry)) position (now (s .entry)) r ⌝ }
+{
+    if record::used(numbers) <= position {
+        return Part {
+            start: 0,
+            length: 0,
+        };
+    }
+    let a = record::get(numbers, position);
+    let start = a.start as usize;
+    let length = a.length as usize;
+    if s.len() < start + length {
+        return Part {
+            start: 0,
+            length: 0,
+        };
+    }
+    Part { start, length }
+}
+
+// The position of the first AVP at depth 1 with a vendor and code, 256 for none.
+#[no_mangle]
+pub extern "C" fn talazumir_search(numbers: &[u32; 1799], vendor: u32, code: u32) -> u32
+    ensures { λ r. ⌜ r ≡ searchNumbers (now (numbers .entry)) vendor code ⌝ }
+{
+    let used = record::used(numbers);
+    let mut i: usize = 0;
+    while i < used {
+        if reader::is_found(record::get(numbers, i), vendor, code) {
+            return i as u32;
+        }
+        i += 1;
+    }
+    256
+}

@@ -1,0 +1,84 @@
+// A record as numbers in a lent array: written whole, and read place by place, so that no record is made to read one AVP.
+ghost use mathlib.Core.Path.{_≡_};
+ghost use Prim.Native.Nat.{_+_, _*_, _<_, min};
+ghost use lib.ListN.{length};
+ghost use lib.Seq.{sets};
+ghost use Rattle.boundary.specs.Numbers.{headNumbers, avpNumbers, numbersOf, avpAt, countOf};
+use rules::Avp;
+use rules::Record;
+use rules::limits;
+
+// A proof takes from here that what the array holds is as long as its type says.
+fn size(numbers: &[u32; 1799]) -> usize
+    ensures { λ r. ⌜ (r ≡ 1799) × (length (now (numbers .entry)) ≡ 1799) ⌝ }
+{
+    log::length(numbers)
+}
+
+fn put_head(numbers: &mut [u32; 1799], record: Record)
+    ensures { λ _. ⌜ now (numbers .exit) ≡ sets (now (numbers .entry)) 0 (headNumbers «record») ⌝ }
+{
+    numbers[0] = log::bit_of(record.r);
+    numbers[1] = log::bit_of(record.p);
+    numbers[2] = log::bit_of(record.e);
+    numbers[3] = log::bit_of(record.t);
+    numbers[4] = record.hop_by_hop;
+    numbers[5] = record.end_to_end;
+    numbers[6] = record.count;
+}
+
+fn put_avp(numbers: &mut [u32; 1799], position: usize, a: Avp)
+    requires { ⌜ position < 256 ⌝ }
+    ensures { λ _. ⌜ now (numbers .exit) ≡ sets (now (numbers .entry)) (position * 7 + 7) (avpNumbers a) ⌝ }
+{
+    let at = position * 7 + 7;
+    numbers[at] = a.depth;
+    numbers[at + 1] = a.vendor;
+    numbers[at + 2] = a.code;
+    numbers[at + 3] = log::bit_of(a.m);
+    numbers[at + 4] = log::bit_of(a.p);
+    numbers[at + 5] = a.start;
+    numbers[at + 6] = a.length;
+}
+
+pub(crate) fn put(numbers: &mut [u32; 1799], record: Record)
+    ensures { λ _. ⌜ now (numbers .exit) ≡ numbersOf «record» ⌝ }
+{
+    size(numbers);
+    put_head(numbers, record);
+    let mut i: usize = 0;
+    while i < limits::MOST_AVPS {
+        put_avp(numbers, i, record.avps[i]);
+        i += 1;
+    }
+}
+
+fn wide(x: u32) -> usize
+    ensures { λ r. ⌜ r ≡ x ⌝ }
+{
+    x as usize
+}
+
+// How many positions are used; a count above 256 is read as 256.
+pub(crate) fn used(numbers: &[u32; 1799]) -> usize
+    ensures { λ r. ⌜ r ≡ min (countOf (now (numbers .entry))) 256 ⌝ }
+{
+    log::used(wide(numbers[6]))
+}
+
+// The AVP at a position.
+pub(crate) fn get(numbers: &[u32; 1799], position: usize) -> Avp
+    requires { ⌜ position < 256 ⌝ }
+    ensures { λ r. ⌜ r ≡ avpAt (now (numbers .entry)) position ⌝ }
+{
+    let at = position * 7 + 7;
+    Avp {
+        depth: numbers[at],
+        vendor: numbers[at + 1],
+        code: numbers[at + 2],
+        m: numbers[at + 3] == 1,
+        p: numbers[at + 4] == 1,
+        start: numbers[at + 5],
+        length: numbers[at + 6],
+    }
+}
