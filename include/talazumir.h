@@ -1,0 +1,101 @@
+/* Talazumir: the proved reader of Nt commands, for C callers. Link with target/staticlib/libboundary.a, which
+ * `rt staticlib boundary` proves and builds (x86-64 Linux).
+ *
+ * Each function has one answer for every content of what it is handed; there is no error besides the answers below. What
+ * the caller sees to: pointers are not NULL, also where a length is 0; a slice has the octets that its length says; an
+ * array has the length that its declaration says; an array that is written overlaps nothing else that is handed in. The
+ * functions keep nothing between calls and allocate nothing. */
+#ifndef TALAZUMIR_H
+#define TALAZUMIR_H
+
+#include <stddef.h>
+#include <stdint.h>
+
+#ifdef __cplusplus
+extern "C" {
+#endif
+
+/* Room for AVPs; a count above it is read as it. */
+#define TALAZUMIR_MOST_AVPS 256
+
+/* The answer of a search that finds nothing. */
+#define TALAZUMIR_NONE 256
+
+/* The numbers of a log, seven for each AVP: depth, vendor, code, M, P, and the start and the end of the data. */
+#define TALAZUMIR_LOG_NUMBERS 1792
+
+/* The numbers of a record: seven for the command, then seven for each of 256 positions. */
+#define TALAZUMIR_RECORD_NUMBERS 1799
+
+/* The command's numbers in a record, by index. R, P, E and T are 0 or 1; `COUNT` says how many positions are used. */
+#define TALAZUMIR_R 0
+#define TALAZUMIR_P 1
+#define TALAZUMIR_E 2
+#define TALAZUMIR_T 3
+#define TALAZUMIR_HOP_BY_HOP 4
+#define TALAZUMIR_END_TO_END 5
+#define TALAZUMIR_COUNT 6
+
+/* The index of the first number of a position, and what stands from there on. Depth is 1 in the command's own list; vendor
+ * is 0 where V is clear; M and P are 0 or 1; start and length are those of the data, counted from the command's start.
+ * AVPs stand in walk order: a group, then its members. The numbers of unused positions are 0. */
+#define TALAZUMIR_POSITION(position) (7 + 7 * (size_t)(position))
+#define TALAZUMIR_AVP_DEPTH 0
+#define TALAZUMIR_AVP_VENDOR 1
+#define TALAZUMIR_AVP_CODE 2
+#define TALAZUMIR_AVP_M 3
+#define TALAZUMIR_AVP_P 4
+#define TALAZUMIR_AVP_START 5
+#define TALAZUMIR_AVP_LENGTH 6
+
+/* What comes back for a command: the number (table below), the place, counted in octets from the command's start, and the
+ * Vendor-Id and code of the AVP at fault. An accepted command has four times 0.
+ *
+ *      0  accepted
+ *   3001  command code                3007  application
+ *   3008  header bits                 3009  AVP bits
+ *   5001  AVP unsupported             5004  value
+ *   5005  AVP missing                 5008  AVP not allowed
+ *   5009  AVP too many times          5011  version
+ *   5014  AVP length                  5015  command length
+ *   7001  longer than 16,384 octets   7002  257th AVP
+ *   7003  group at depth 4            7005  error answer
+ *
+ * The place is the first octet of the AVP at fault; for 5005 the end of the list that lacks the AVP, with the missing
+ * vendor and code. Header refusals and 7002 have vendor and code 0. */
+struct TalazumirVerdict {
+    uint32_t number;
+    uint32_t place;
+    uint32_t vendor;
+    uint32_t code;
+};
+
+/* A part of a slice. */
+struct TalazumirPart {
+    size_t start;
+    size_t length;
+};
+
+/* The verdict of the command that is the whole slice. The log is written from its first number on with the AVPs that the
+ * walk met, up to a fault (none where the header is refused); its other numbers stay as they were. */
+struct TalazumirVerdict talazumir_verdict(const uint8_t *octets, size_t length, uint32_t log[TALAZUMIR_LOG_NUMBERS]);
+
+/* The verdict of the command that is the whole slice, and its record. All 1,799 numbers are written; with a refusal all
+ * are 0. */
+struct TalazumirVerdict talazumir_read(const uint8_t *octets, size_t length, uint32_t record[TALAZUMIR_RECORD_NUMBERS]);
+
+/* The part of the slice that is the data of the AVP at a position, for whatever numbers the record holds and whatever
+ * slice. Start 0 and length 0 where the position is unused (from the count on, or from 256 on) or where the part does not
+ * lie in the slice. So start + length never exceeds `length`. Octets of the slice are not looked at. */
+struct TalazumirPart talazumir_data(const uint32_t record[TALAZUMIR_RECORD_NUMBERS], size_t position, const uint8_t *octets,
+                                    size_t length);
+
+/* The position of the first AVP at depth 1 with this vendor and code, TALAZUMIR_NONE exactly where there is none, for
+ * whatever numbers the record holds. */
+uint32_t talazumir_search(const uint32_t record[TALAZUMIR_RECORD_NUMBERS], uint32_t vendor, uint32_t code);
+
+#ifdef __cplusplus
+}
+#endif
+
+#endif

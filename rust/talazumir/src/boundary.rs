@@ -1,0 +1,41 @@
+//! The exported functions of the proved archive. All `unsafe` of this crate stands here.
+
+use crate::{Verdict, LOG_NUMBERS, RECORD_NUMBERS};
+
+/// A part of a slice, as it crosses the boundary.
+#[repr(C)]
+pub(crate) struct Part {
+    pub(crate) start: usize,
+    pub(crate) length: usize,
+}
+
+extern "C" {
+    fn talazumir_verdict(octets: *const u8, length: usize, log: *mut u32) -> Verdict;
+    fn talazumir_read(octets: *const u8, length: usize, record: *mut u32) -> Verdict;
+    fn talazumir_data(record: *const u32, position: usize, octets: *const u8, length: usize) -> Part;
+    fn talazumir_search(record: *const u32, vendor: u32, code: u32) -> u32;
+}
+
+// Each call below is sound for the same reasons. The pointers come from references, so they are not null and live through
+// the call; slices pass with their own lengths, arrays have the lengths of their types; `&mut` overlaps nothing else. The
+// functions have no precondition on contents, are proved to read and write within these bounds, and keep no pointer.
+
+pub(crate) fn verdict(octets: &[u8], log: &mut [u32; LOG_NUMBERS]) -> Verdict {
+    // SAFETY: the slice is read, the log of 1,792 numbers written; see above.
+    unsafe { talazumir_verdict(octets.as_ptr(), octets.len(), log.as_mut_ptr()) }
+}
+
+pub(crate) fn read(octets: &[u8], record: &mut [u32; RECORD_NUMBERS]) -> Verdict {
+    // SAFETY: the slice is read, the record of 1,799 numbers written; see above.
+    unsafe { talazumir_read(octets.as_ptr(), octets.len(), record.as_mut_ptr()) }
+}
+
+pub(crate) fn data(record: &[u32; RECORD_NUMBERS], position: usize, octets: &[u8]) -> Part {
+    // SAFETY: the record of 1,799 numbers and the slice are only read; see above.
+    unsafe { talazumir_data(record.as_ptr(), position, octets.as_ptr(), octets.len()) }
+}
+
+pub(crate) fn search(record: &[u32; RECORD_NUMBERS], vendor: u32, code: u32) -> u32 {
+    // SAFETY: the record of 1,799 numbers is only read; see above.
+    unsafe { talazumir_search(record.as_ptr(), vendor, code) }
+}

@@ -1,0 +1,197 @@
+//! The proved reader of Nt commands (TS 29.154, Background-Data-Transfer request and answer) as safe Rust.
+//!
+//! The answers come from the archive that `rt staticlib boundary` proves and builds; this crate only hands over slices and
+//! arrays. `include/talazumir.h` has the table of verdict numbers.
+//!
+//! ```
+//! // A header alone lacks its Session-Id (263) at octet 20.
+//! let octets = [1, 0, 0, 20, 0xC0, 0x80, 0, 0x73, 1, 0, 0, 0x84, 0, 0, 0, 1, 0, 0, 0, 2];
+//! let refusal = talazumir::read(&octets).unwrap_err();
+//! assert_eq!((refusal.number, refusal.place, refusal.vendor, refusal.code), (5005, 20, 0, 263));
+//! ```
+
+#![deny(unsafe_code)]
+
+use std::fmt;
+
+#[allow(unsafe_code)]
+mod boundary;
+
+/// Room for AVPs in a record; a count above it is read as it.
+pub const MOST_AVPS: usize = 256;
+
+/// The numbers of a log, seven for each AVP.
+pub const LOG_NUMBERS: usize = 7 * MOST_AVPS;
+
+/// The numbers of a record: seven for the command, then seven for each position.
+pub const RECORD_NUMBERS: usize = 7 + 7 * MOST_AVPS;
+
+/// What comes back for a command.
+#[repr(C)]
+#[derive(Clone, Copy, Debug, PartialEq, Eq, Hash)]
+pub struct Verdict {
+    /// 0 where the command is accepted, else the number of the refusal.
+    pub number: u32,
+    /// The first octet of the AVP at fault, or the end of the list that lacks an AVP (5005).
+    pub place: u32,
+    /// The Vendor-Id of the AVP at fault, 0 where it has none.
+    pub vendor: u32,
+    /// The code of the AVP at fault.
+    pub code: u32,
+}
+
+impl Verdict {
+    /// Whether the command is accepted.
+    pub fn is_accepted(&self) -> bool {
+        self.number == 0
+    }
+}
+
+impl fmt::Display for Verdict {
+    /// Number, place, vendor and code, as in a line of a book's listing.
+    fn fmt(&self, f: &mut fmt::Formatter<'_>) -> fmt::Result {
+        write!(f, "{} {} {} {}", self.number, self.place, self.vendor, self.code)
+    }
+}
+
+impl std::error::Error for Verdict {}
+
+/// An AVP of a record.
+#[derive(Clone, Copy, Debug, PartialEq, Eq, Hash)]
+pub struct Avp {
+    /// 1 in the command's own list, one more in each group.
+    pub depth: u32,
+    /// The Vendor-Id, 0 where V is clear.
+    pub vendor: u32,
+    /// The AVP code.
+    pub code: u32,
+    /// The M flag.
+    pub m: bool,
+    /// The P flag.
+    pub p: bool,
+    /// Where the data starts, counted from the command's start.
+    pub start: u32,
+    /// The length of the data.
+    pub length: u32,
+}
+
+/// The record of a command, as the numbers that cross the boundary.
+#[derive(Clone, Debug, PartialEq, Eq)]
+pub struct Record {
+    numbers: Box<[u32; RECORD_NUMBERS]>,
+}
+
+impl Record {
+    /// The record that these numbers stand for; a flag is set exactly where its number is 1.
+    pub fn from_numbers(numbers: [u32; RECORD_NUMBERS]) -> Record {
+        Record { numbers: Box::new(numbers) }
+    }
+
+    /// The numbers: R, P, E, T, hop-by-hop, end-to-end, count; then for each of 256 positions depth, vendor, code, M, P,
+    /// start and length.
+    pub fn numbers(&self) -> &[u32; RECORD_NUMBERS] {
+        &self.numbers
+    }
+
+    /// The R flag: a request.
+    pub fn is_request(&self) -> bool {
+        self.numbers[0] == 1
+    }
+
+    /// The P flag: proxiable.
+    pub fn is_proxiable(&self) -> bool {
+        self.numbers[1] == 1
+    }
+
+    /// The E flag: an error answer.
+    pub fn is_error(&self) -> bool {
+        self.numbers[2] == 1
+    }
+
+    /// The T flag: potentially retransmitted.
+    pub fn is_retransmitted(&self) -> bool {
+        self.numbers[3] == 1
+    }
+
+    /// The hop-by-hop identifier.
+    pub fn hop_by_hop(&self) -> u32 {
+        self.numbers[4]
+    }
+
+    /// The end-to-end identifier.
+    pub fn end_to_end(&self) -> u32 {
+        self.numbers[5]
+    }
+
+    /// How many positions are used; a count above 256 is read as 256.
+    pub fn count(&self) -> usize {
+        MOST_AVPS.min(self.numbers[6] as usize)
+    }
+
+    /// The AVPs in walk order: a group, then its members.
+    pub fn avps(&self) -> impl Iterator<Item = Avp> + '_ {
+        self.numbers[7..].chunks_exact(7).take(self.count()).map(|n| Avp {
+            depth: n[0],
+            vendor: n[1],
+            code: n[2],
+            m: n[3] == 1,
+            p: n[4] == 1,
+            start: n[5],
+            length: n[6],
+        })
+    }
+
+    /// The data of the AVP at a position, as that part of `octets`; the empty part at its start where the position is
+    /// unused or the part does not lie in `octets`.
+    pub fn data<'a>(&self, position: usize, octets: &'a [u8]) -> &'a [u8] {
+        let part = boundary::data(&self.numbers, position, octets);
+        &octets[part.start..part.start + part.length]
+    }
+
+    /// The position of the first AVP at depth 1 with this vendor and code.
+    pub fn search(&self, vendor: u32, code: u32) -> Option<usize> {
+        let position = boundary::search(&self.numbers, vendor, code) as usize;
+        (position < MOST_AVPS).then_some(position)
+    }
+}
+
+/// The record of an accepted command, or the verdict that refuses it.
+pub fn read(octets: &[u8]) -> Result<Record, Verdict> {
+    let mut record = Record::from_numbers([0; RECORD_NUMBERS]);
+    let verdict = boundary::read(octets, &mut record.numbers);
+    if verdict.is_accepted() {
+        Ok(record)
+    } else {
+        Err(verdict)
+    }
+}
+
+/// Judges commands one after the other with one log, and makes no record.
+#[derive(Clone, Debug)]
+pub struct Reader {
+    log: Box<[u32; LOG_NUMBERS]>,
+}
+
+impl Reader {
+    /// A reader with a blank log.
+    pub fn new() -> Reader {
+        Reader { log: Box::new([0; LOG_NUMBERS]) }
+    }
+
+    /// The verdict of a command. It does not depend on the commands judged before.
+    pub fn verdict(&mut self, octets: &[u8]) -> Verdict {
+        boundary::verdict(octets, &mut self.log)
+    }
+
+    /// The log: the AVPs that the last walk met, up to a fault, seven numbers for each: depth, vendor, code, M, P, start and
+    /// end of the data. Behind them stands what earlier walks left.
+    pub fn log(&self) -> &[u32; LOG_NUMBERS] {
+        &self.log
+    }
+}
+
+impl Default for Reader {
+    fn default() -> Reader {
+        Reader::new()
+    }
+}

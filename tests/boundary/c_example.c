@@ -1,0 +1,102 @@
+/* Reads document 01's commands S, S without its last AVP, and H through the boundary, and prints what comes back. */
+#include <inttypes.h>
+#include <stdio.h>
+#include <string.h>
+
+#include "talazumir.h"
+
+/* 01, Commands at the edges: S, 160 octets. */
+static const uint8_t S[160] = {
+    0x01, 0x00, 0x00, 0xA0, 0xC0, 0x80, 0x00, 0x73, 0x01, 0x00, 0x00, 0x84, 0, 0, 0, 1, 0, 0, 0, 2,
+    0, 0, 0x01, 0x07, 0x40, 0, 0, 9, 0x73, 0, 0, 0,                            /* 263 Session-Id */
+    0, 0, 0x01, 0x04, 0x40, 0, 0, 20,                                          /* 260, holding 266 */
+    0, 0, 0x01, 0x0A, 0x40, 0, 0, 12, 0, 0, 0x28, 0xAF,                        /* 266 Vendor-Id */
+    0, 0, 0x01, 0x15, 0x40, 0, 0, 12, 0, 0, 0, 1,                              /* 277 Auth-Session-State */
+    0, 0, 0x01, 0x08, 0x40, 0, 0, 9, 0x68, 0, 0, 0,                            /* 264 Origin-Host */
+    0, 0, 0x01, 0x28, 0x40, 0, 0, 9, 0x72, 0, 0, 0,                            /* 296 Origin-Realm */
+    0, 0, 0x01, 0x1B, 0x40, 0, 0, 9, 0x64, 0, 0, 0,                            /* 283 Destination-Realm */
+    0, 0, 0x10, 0x6B, 0xC0, 0, 0, 16, 0, 0, 0x28, 0xAF, 0, 0, 0, 1,            /* 4203 Transfer-Request-Type */
+    0, 0, 0x01, 0x25, 0x40, 0, 0, 9, 0x65, 0, 0, 0,                            /* 293 Destination-Host */
+    0, 0, 0x10, 0x6A, 0xC0, 0, 0, 13, 0, 0, 0x28, 0xAF, 0x66, 0, 0, 0,         /* 4202 Reference-Id */
+    0, 0, 0x10, 0x70, 0xC0, 0, 0, 16, 0, 0, 0x28, 0xAF, 0, 0, 0, 7,            /* 4208 Transfer-Policy-Id */
+};
+
+static uint32_t record[TALAZUMIR_RECORD_NUMBERS];
+static uint32_t log_numbers[TALAZUMIR_LOG_NUMBERS];
+
+static void print_verdict(const char *name, struct TalazumirVerdict v) {
+    printf("%s: %" PRIu32 " %" PRIu32 " %" PRIu32 " %" PRIu32 "\n", name, v.number, v.place, v.vendor, v.code);
+}
+
+static void print_numbers(const char *name, const uint32_t *numbers, size_t count) {
+    printf("%s:", name);
+    for (size_t i = 0; i < count; i++) {
+        printf(" %" PRIu32, numbers[i]);
+    }
+    printf("\n");
+}
+
+static void print_data(size_t position, const uint8_t *octets, size_t length) {
+    struct TalazumirPart part = talazumir_data(record, position, octets, length);
+    printf("data of position %zu of %zu octets: start %zu length %zu:", position, length, part.start, part.length);
+    for (size_t i = 0; i < part.length; i++) {
+        printf(" %02X", octets[part.start + i]);
+    }
+    printf("\n");
+}
+
+static void print_search(uint32_t vendor, uint32_t code) {
+    printf("search of %" PRIu32 " %" PRIu32 ": %" PRIu32 "\n", vendor, code, talazumir_search(record, vendor, code));
+}
+
+/* How many numbers are not 0. */
+static size_t used(const uint32_t *numbers, size_t count) {
+    size_t n = 0;
+    for (size_t i = 0; i < count; i++) {
+        n += numbers[i] != 0;
+    }
+    return n;
+}
+
+int main(void) {
+    memset(record, 0xFF, sizeof record);
+    print_verdict("S", talazumir_read(S, sizeof S, record));
+    print_numbers("R P E T, identifiers, count", record, 7);
+    print_numbers("position 0", record + TALAZUMIR_POSITION(0), 7);
+    print_numbers("position 2", record + TALAZUMIR_POSITION(2), 7);
+    print_numbers("position 10", record + TALAZUMIR_POSITION(10), 7);
+    printf("numbers from position 11 on that are not 0: %zu\n",
+           used(record + TALAZUMIR_POSITION(11), TALAZUMIR_RECORD_NUMBERS - TALAZUMIR_POSITION(11)));
+    print_data(0, S, sizeof S);
+    print_data(1, S, sizeof S);
+    print_data(10, S, sizeof S);
+    print_data(10, S, sizeof S - 1);
+    print_data(11, S, sizeof S);
+    print_data(SIZE_MAX, S, sizeof S);
+    print_search(10415, 4203);
+    print_search(0, 4203);
+    print_search(0, 266);
+
+    /* whatever numbers stand in a record: a count above 256 is read as 256, a part that leaves the slice is none */
+    memset(record, 0xFF, sizeof record);
+    print_data(255, S, sizeof S);
+    print_data(256, S, sizeof S);
+    record[TALAZUMIR_POSITION(255) + TALAZUMIR_AVP_DEPTH] = 1;
+    print_search(UINT32_MAX, UINT32_MAX);
+
+    uint8_t shorter[144];
+    memcpy(shorter, S, sizeof shorter);
+    shorter[3] = sizeof shorter;
+    print_verdict("S without 4208", talazumir_read(shorter, sizeof shorter, record));
+    printf("numbers of the record that are not 0: %zu\n", used(record, TALAZUMIR_RECORD_NUMBERS));
+
+    print_verdict("S, verdict alone", talazumir_verdict(S, sizeof S, log_numbers));
+    print_numbers("log at position 10", log_numbers + 70, 7);
+    print_verdict("S without 4208, verdict alone", talazumir_verdict(shorter, sizeof shorter, log_numbers));
+    uint8_t h[20];
+    memcpy(h, S, sizeof h);
+    h[3] = sizeof h;
+    print_verdict("H", talazumir_verdict(h, sizeof h, log_numbers));
+    print_verdict("empty slice", talazumir_verdict(S, 0, log_numbers));
+    return 0;
+}
