@@ -1,7 +1,7 @@
 //! How often each answer occurred, by name and by depth.
 
 use crate::avp::AvpHeader;
-use crate::dictionary::Kind;
+use crate::dictionary::{Form, Kind};
 use crate::header::HEADER;
 use crate::rows;
 use crate::verdict::{number, Verdict};
@@ -25,6 +25,7 @@ pub struct Coverage {
     by_name: BTreeMap<(u32, u32, u32), u64>,
     by_place: BTreeMap<(u32, u32), u64>,
     by_name_and_depth: BTreeMap<(u32, u32, u32, u8), u64>,
+    widths_by_depth: BTreeMap<u8, u64>,
     accepted_by_depth: BTreeMap<u8, u64>,
     requests: u64,
     most_avps: usize,
@@ -46,6 +47,9 @@ impl Coverage {
                 *self.by_depth.entry((verdict.number, depth)).or_default() += 1;
                 let named = (verdict.number, verdict.vendor, verdict.code, depth);
                 *self.by_name_and_depth.entry(named).or_default() += 1;
+                if verdict.number == number::INVALID_AVP_LENGTH && fits(octets, verdict) {
+                    *self.widths_by_depth.entry(depth).or_default() += 1;
+                }
             }
         }
         let named = Kind::of(verdict.vendor, verdict.code).is_some();
@@ -66,6 +70,11 @@ impl Coverage {
     /// How often a number occurred at a depth.
     pub(crate) fn times_at(&self, number: u32, depth: u8) -> u64 {
         self.by_depth.get(&(number, depth)).copied().unwrap_or(0)
+    }
+
+    /// How often a width was not met at a depth: 5014 of an AVP that lies whole in the command.
+    pub(crate) fn widths_at(&self, depth: u8) -> u64 {
+        self.widths_by_depth.get(&depth).copied().unwrap_or(0)
     }
 
     /// How often a number occurred with this name at one of these depths.
@@ -131,6 +140,20 @@ impl Display for Coverage {
         }
         Ok(())
     }
+}
+
+/// Whether the AVP at fault is known, has a fixed width and lies whole in the command, so that its width is at fault; an AVP
+/// that only its list cuts off may pass for one.
+fn fits(octets: &[u8], verdict: &Verdict) -> bool {
+    let place = verdict.place as usize;
+    AvpHeader::read(&octets[place..], place).is_ok_and(|header| {
+        let width = match Kind::of(header.vendor, header.code).map(Kind::form) {
+            Some(Form::Four) => 4,
+            Some(Form::Eight) => 8,
+            _ => return false,
+        };
+        header.length - header.size != width
+    })
 }
 
 /// The depth of the AVP at fault: for 5005 that of the members of the list that lacks it.

@@ -54,6 +54,12 @@ impl Coverage {
                 }
             }
         }
+        for depth in 1..=4 {
+            let frames = self.times_at(number::INVALID_AVP_LENGTH, depth) - self.widths_at(depth);
+            if self.widths_at(depth) == 0 || frames == 0 {
+                gaps.push(format!("5014 at depth {depth}, by the frame and by the width"));
+            }
+        }
         self.row_gaps("BTR", &rows::BTR, OWN, &mut gaps);
         self.row_gaps("BTA", &rows::BTA, OWN, &mut gaps);
         for &kind in Kind::ALL {
