@@ -23,33 +23,32 @@ module _ (numbers : List ℕ) (i : ℕ) (s : List ℕ) where
       record { is = rw (le-ltb i (min (countOf numbers) 256) h); octets = sym (data-unused (recordOf numbers) i s k) }
 
   module _ (used : i < min (countOf numbers) 256) where
-    same : avpIn (recordOf numbers .avps) i ≡ avpAt numbers i
-    same = avp-in numbers i (omega arith)
-
     in-record : i < min (recordOf numbers .count) 256
     in-record = rw (count-in numbers) used
 
-    pub part-outside : length s < avpAt numbers i .start + avpAt numbers i .length → IsData numbers i s noPart
-    unfolding partAt
-    part-outside h =
-        let k : length s < avpIn (recordOf numbers .avps) i .start + avpIn (recordOf numbers .avps) i .length =
-        rw same h in
-        record {
-          is = rw (lt-ltb i (min (countOf numbers) 256) used, lt-leb (avpAt numbers i .start + avpAt numbers i .length) (length s) h);
-          octets = sym (data-outside (recordOf numbers) i s in-record k);
-        }
+    module _ (a : Avp) (is : a ≡ avpAt numbers i) where
+      avp-here : avpIn (recordOf numbers .avps) i ≡ a
+      avp-here = avp-in numbers i (omega arith) ∙ sym is
 
-    pub part-inside : avpAt numbers i .start + avpAt numbers i .length ≤ length s
-        → IsData numbers i s (part (avpAt numbers i .start) (avpAt numbers i .length))
-    unfolding partAt
-    part-inside h =
-        let k : avpIn (recordOf numbers .avps) i .start + avpIn (recordOf numbers .avps) i .length ≤ length s = rw same h in
-        record {
-          is = rw (lt-ltb i (min (countOf numbers) 256) used, le-leb (avpAt numbers i .start + avpAt numbers i .length) (length s) h);
-          octets =
-              ap (λ (a : Avp). take (a .length) (drop (a .start) s)) (sym same)
-              ∙ sym (data-inside (recordOf numbers) i s in-record k);
-        }
+      pub part-outside : length s < a .start + a .length → IsData numbers i s noPart
+      unfolding partAt
+      part-outside h =
+          let k : length s < avpIn (recordOf numbers .avps) i .start + avpIn (recordOf numbers .avps) i .length = rw avp-here h in
+          record {
+            is = rw (lt-ltb i (min (countOf numbers) 256) used, ← is, lt-leb (a .start + a .length) (length s) h);
+            octets = sym (data-outside (recordOf numbers) i s in-record k);
+          }
+
+      pub part-inside : a .start + a .length ≤ length s → IsData numbers i s (part (a .start) (a .length))
+      unfolding partAt
+      part-inside h =
+          let k : avpIn (recordOf numbers .avps) i .start + avpIn (recordOf numbers .avps) i .length ≤ length s = rw avp-here h in
+          record {
+            is = rw (lt-ltb i (min (countOf numbers) 256) used, ← is, le-leb (a .start + a .length) (length s) h);
+            octets =
+                ap (λ (x : Avp). take (x .length) (drop (x .start) s)) (sym avp-here)
+                ∙ sym (data-inside (recordOf numbers) i s in-record k);
+          }
 
 -- ---- a search place by place
 
@@ -68,17 +67,14 @@ module _ (numbers : List ℕ) (vendor code : ℕ) where
       ap positionOf (search-end (recordOf numbers) (avps-full numbers) vendor code i k)
 
   module _ (i : ℕ) (used : i < min (countOf numbers) 256) (a : Avp) (is : a ≡ avpAt numbers i) where
-    at : avpIn (recordOf numbers .avps) i ≡ a
-    at = same numbers i [] used ∙ sym is
-
     pub position-here : (eqb (a .depth) 1 && named a vendor code) ≡ true → positionLeft i ≡ i
     position-here e =
         let k : (eqb (avpIn (recordOf numbers .avps) i .depth) 1 && named (avpIn (recordOf numbers .avps) i) vendor code) ≡ true =
-        ap (λ (x : Avp). eqb (x .depth) 1 && named x vendor code) at ∙ e in
+        ap (λ (x : Avp). eqb (x .depth) 1 && named x vendor code) (avp-here numbers i [] used a is) ∙ e in
         ap positionOf (search-here (recordOf numbers) (avps-full numbers) vendor code i (in-record numbers i [] used) k)
 
     pub position-later : (eqb (a .depth) 1 && named a vendor code) ≡ false → positionLeft i ≡ positionLeft (i + 1)
     position-later e =
         let k : (eqb (avpIn (recordOf numbers .avps) i .depth) 1 && named (avpIn (recordOf numbers .avps) i) vendor code) ≡ false =
-        ap (λ (x : Avp). eqb (x .depth) 1 && named x vendor code) at ∙ e in
+        ap (λ (x : Avp). eqb (x .depth) 1 && named x vendor code) (avp-here numbers i [] used a is) ∙ e in
         ap positionOf (search-later (recordOf numbers) (avps-full numbers) vendor code i (in-record numbers i [] used) k)

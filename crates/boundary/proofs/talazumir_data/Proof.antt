@@ -1,5 +1,6 @@
 -- `boundary::talazumir_data` meets its contract.
 use borrow.Author.Needs.{needs}
+use native.Mathlib.Omega.{arith}
 use Rattle.boundary.proofs.Parts.{part-unused, part-outside, part-inside}
 use Rattle.boundary.proofs.talazumir_data.Statement.{statement}
 use Rattle.boundary.proofs.talazumir_data.Tie as tie
@@ -11,7 +12,7 @@ returns : tie.Need-returns
 returns c =
     let u = c .before in
     let a = u .before .before .args in
-    part-unused (a .numbers .now) (a .position) (a .s .now) (rw (← u .used .ensures) (c .if1 .taken))
+    part-unused (a .numbers .now) (a .position) (a .s .now) (omega (arith, u .used .ensures))
 
 get-requires : tie.Need-get-requires
 get-requires c κs = search needs
@@ -30,17 +31,14 @@ returns-2 c =
     let g = c .before .before .before in
     let u = g .before .before in
     let a = u .before .before .args in
-    part-outside (a .numbers .now) (a .position) (a .s .now) (rw (← u .used .ensures) (g .before .if1 .left))
-    (rw (← g .get .ensures) (c .if2 .taken))
+    part-outside (a .numbers .now) (a .position) (a .s .now) (omega (arith, g .before, u .used .ensures)) (g .get .result) (g .get .ensures) (omega arith)
 
 returns-3 : tie.Need-returns-3
 returns-3 c =
     let g = c .before .before .before in
     let u = g .before .before in
     let a = u .before .before .args in
-    rw (g .get .ensures)
-    (part-inside (a .numbers .now) (a .position) (a .s .now) (rw (← u .used .ensures) (g .before .if1 .left))
-    (rw (← g .get .ensures) (c .if2 .left)))
+    part-inside (a .numbers .now) (a .position) (a .s .now) (omega (arith, g .before, u .used .ensures)) (g .get .result) (g .get .ensures) (omega arith)
 
 pub talazumir-data-spec : {M : Type 1} → statement M
 talazumir-data-spec =

@@ -37,8 +37,8 @@ returns c =
     let g = c .before .before in
     let l = g .before .before .loop in
     let a = g .before .before .before .before .args in
-    sym (position-here (a .numbers .now) (a .vendor) (a .code) (l .i) (omega (arith, g .before, l .inv .1 .0)) (g .get .result) (g .get .ensures) (sym (c .before .is-found .ensures) ∙ c .if1 .taken))
-    ∙ l .inv .1 .1
+    let here = position-here (a .numbers .now) (a .vendor) (a .code) (l .i) (omega (arith, g .before, l .inv .1 .0)) (g .get .result) (g .get .ensures) (sym (c .before .is-found .ensures) ∙ c .if1 .taken) in
+    omega (arith, here, l .inv .1 .1)
 
 add-i : tie.Need-add-i Inv-loop μ-loop
 add-i c = omega arith
@@ -63,7 +63,8 @@ returns-2 : tie.Need-returns-2 Inv-loop μ-loop
 returns-2 c =
     let l = c .before .loop in
     let a = c .before .before .before .args in
-    sym (position-end (a .numbers .now) (a .vendor) (a .code) (l .i) (omega (arith, c .loop-test .left, l .inv .1 .0))) ∙ l .inv .1 .1
+    let none = position-end (a .numbers .now) (a .vendor) (a .code) (l .i) (omega (arith, c .loop-test .left, l .inv .1 .0)) in
+    omega (arith, none, l .inv .1 .1)
 
 pub talazumir-search-spec : {M : Type 1} → statement M
 talazumir-search-spec =
