@@ -12,5 +12,7 @@ pub mod Exchange
 pub mod Command
 pub mod Record
 pub mod Meaning
+pub mod Writer
+pub mod Calls
 pub mod Book
 pub mod Edges

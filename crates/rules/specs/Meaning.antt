@@ -10,7 +10,7 @@ use Rattle.rules.specs.declared.Record.{Record}
 use Rattle.rules.specs.Octets.{padded}
 use Rattle.rules.specs.Header.{commandFlags}
 use Rattle.rules.specs.Avp.{placeOf, endOf}
-use Rattle.rules.specs.Dictionary.{dictionary, defined, isGroup}
+use Rattle.rules.specs.Dictionary.{Entry, dictionary, find, isGroup}
 use Rattle.rules.specs.Walk.{avpsOf}
 use Rattle.rules.specs.Command.{walkOf}
 use Rattle.rules.specs.Record.{recordOf, recorded}
@@ -35,18 +35,19 @@ pub record Meaning : Type 0 where
   pub count : ℕ
   pub cells : List Cell
 
-abbrev pub isReadGroup : Avp → Bool
-isReadGroup a = isGroup (defined dictionary a)
+-- a name whose data is read as a list
+abbrev pub isReadGroup : List Entry → ℕ → ℕ → Bool
+isReadGroup dict vendor code = isGroup (find dict vendor code)
 
-abbrev pub cellOf : List ℕ → Avp → Cell
-cellOf s a = record {
+abbrev pub cellOf : List Entry → List ℕ → Avp → Cell
+cellOf dict s a = record {
   depth = a .depth;
   vendor = a .vendor;
   code = a .code;
   m = a .m;
   p = a .p;
   length = a .length;
-  octets = cond (isReadGroup a) [] (take (a .length) (drop (a .start) s));
+  octets = cond (isReadGroup dict (a .vendor) (a .code)) [] (take (a .length) (drop (a .start) s));
 }
 
 -- the meaning of a record over octets; starts do not belong to it
@@ -59,7 +60,7 @@ meaningOver r s = record {
   hopByHop = r .«hop_by_hop»;
   endToEnd = r .«end_to_end»;
   count = r .count;
-  cells = map (cellOf s) (recorded r);
+  cells = map (cellOf dictionary s) (recorded r);
 }
 
 -- the meaning of an accepted command, read from its octets

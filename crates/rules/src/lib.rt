@@ -49,6 +49,12 @@ pub struct Reading {
     pub record: Record,
 }
 
+// What writing a draft gives: the verdict, and how many octets were written, none with a refusal.
+pub struct Written {
+    pub verdict: Verdict,
+    pub length: u32,
+}
+
 // The answer of a search: a position of the record, or none.
 pub enum Found {
     At(usize),
