@@ -8,12 +8,12 @@ use lib.Dec.{ltb, leb}
 use Rattle.rules.specs.declared.Avp.{Avp}
 use Rattle.rules.specs.declared.Record.{Record}
 use Rattle.rules.specs.Octets.{padded}
-use Rattle.rules.specs.Header.{commandFlags}
+use Rattle.rules.specs.Header.{commandFlags, isRequest, isProxiable, isError, isRetransmitted, hopByHop, endToEnd}
 use Rattle.rules.specs.Avp.{placeOf, endOf}
 use Rattle.rules.specs.Dictionary.{Entry, dictionary, find, isGroup}
 use Rattle.rules.specs.Walk.{avpsOf}
 use Rattle.rules.specs.Command.{walkOf}
-use Rattle.rules.specs.Record.{recordOf, recorded}
+use Rattle.rules.specs.Record.{recorded}
 
 -- what an AVP adds to the meaning; a read group has no data octets of its own there
 pub record Cell : Type 0 where
@@ -50,6 +50,19 @@ cellOf dict s a = record {
   octets = cond (isReadGroup dict (a .vendor) (a .code)) [] (take (a .length) (drop (a .start) s));
 }
 
+-- the meaning of an accepted command, read from its octets
+abbrev pub meaningOf : List ℕ → Meaning
+meaningOf s = record {
+  r = isRequest (commandFlags s);
+  p = isProxiable (commandFlags s);
+  e = isError (commandFlags s);
+  t = isRetransmitted (commandFlags s);
+  hopByHop = hopByHop s;
+  endToEnd = endToEnd s;
+  count = length (avpsOf (walkOf s));
+  cells = map (cellOf dictionary s) (avpsOf (walkOf s));
+}
+
 -- the meaning of a record over octets; starts do not belong to it
 abbrev pub meaningOver : Record → List ℕ → Meaning
 meaningOver r s = record {
@@ -62,10 +75,6 @@ meaningOver r s = record {
   count = r .count;
   cells = map (cellOf dictionary s) (recorded r);
 }
-
--- the meaning of an accepted command, read from its octets
-abbrev pub meaningOf : List ℕ → Meaning
-meaningOf s = meaningOver (recordOf s (avpsOf (walkOf s))) s
 
 -- padding is what follows an AVP of the walk to fill its length to a multiple of four
 unfoldable pub isPadding : List Avp → ℕ → Bool

@@ -1,0 +1,2 @@
+-- The laws that carry the demands, by topic, and the demands themselves.
+pub mod Items

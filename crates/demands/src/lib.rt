@@ -1,0 +1,1 @@
+// The user's demands as theorems over the rules. No function stands here; proofs/Demands has the statements.
