@@ -1,10 +1,11 @@
 // 01, Dictionary, as a search by Vendor-Id and AVP code. Codes and widths are the constants of the kinds; each arm of a
 // `match` stands for one entry.
 ghost use mathlib.Core.Path.{_≡_};
-ghost use Rattle.rules.specs.Dictionary.{find, dictionary};
+ghost use Rattle.rules.specs.Dictionary.{find, dictionary, membersOf};
 use rules::Definition;
 use rules::Form;
 use rules::Grammar;
+use rules::Members;
 use rules::kinds;
 
 // Entries by the form of the data; `m` says that M must be set.
@@ -109,5 +110,42 @@ pub fn definition(vendor: u32, code: u32) -> Definition
         kinds::NO_VENDOR => definition_without_vendor(code),
         kinds::VENDOR_3GPP => definition_of_3gpp(code),
         _ => Definition::Unknown,
+    }
+}
+
+// The groups without vendor.
+fn members_without_vendor(code: u32) -> Members
+    ensures { λ r. ⌜ r ≡ membersOf (find dictionary 0 code) ⌝ }
+{
+    match code {
+        kinds::VendorSpecificApplicationId::CODE => Members::Under(
+            Grammar::VendorSpecificApplicationId,
+        ),
+        kinds::ExperimentalResult::CODE => Members::Under(Grammar::ExperimentalResult),
+        kinds::ProxyInfo::CODE => Members::Under(Grammar::ProxyInfo),
+        _ => Members::NoMembers,
+    }
+}
+
+// The groups of 3GPP.
+fn members_of_3gpp(code: u32) -> Members
+    ensures { λ r. ⌜ r ≡ membersOf (find dictionary 10415 code) ⌝ }
+{
+    match code {
+        kinds::SupportedFeatures::CODE => Members::Under(Grammar::SupportedFeatures),
+        kinds::TimeWindow::CODE => Members::Under(Grammar::TimeWindow),
+        kinds::TransferPolicy::CODE => Members::Under(Grammar::TransferPolicy),
+        _ => Members::NoMembers,
+    }
+}
+
+// The rows that the members of a name's group go by. It looks at groups alone, so it is shorter than the whole search.
+pub fn members(vendor: u32, code: u32) -> Members
+    ensures { λ r. ⌜ r ≡ membersOf (find dictionary vendor code) ⌝ }
+{
+    match vendor {
+        kinds::NO_VENDOR => members_without_vendor(code),
+        kinds::VENDOR_3GPP => members_of_3gpp(code),
+        _ => Members::NoMembers,
     }
 }

@@ -14,7 +14,7 @@ use Rattle.rules.specs.declared.Admission.{Admission}
 use Rattle.rules.specs.declared.Admission.the-variants.{ByRow, NoRow}
 use Rattle.rules.specs.Verdict.{orElse}
 use Rattle.rules.specs.Rows.{admitsOthers}
-use Rattle.rules.specs.Dictionary.{Entry, find}
+use Rattle.rules.specs.Dictionary.{Entry, find, membersOf}
 use Rattle.rules.specs.RowChecks.{noneMet, admission, counted, byAdmission, memberOutcome, missing, membersOutcome, membersAt, listOutcome, groupOutcome, groupsOutcome, rowsOutcome}
 
 -- ---- the members of a list
@@ -55,7 +55,7 @@ unfolding groupsOutcome
 groups-none dict = refl
 
 pub groups-next : (dict : List Entry) (a : Avp) (xs : List Avp)
-    → groupsOutcome dict (a ∷ xs) ≡ orElse (groupOutcome (find dict (a .vendor) (a .code)) a xs) (groupsOutcome dict xs)
+    → groupsOutcome dict (a ∷ xs) ≡ orElse (groupOutcome (membersOf (find dict (a .vendor) (a .code))) a xs) (groupsOutcome dict xs)
 unfolding groupsOutcome
 groups-next dict a xs = refl
 

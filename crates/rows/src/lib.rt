@@ -1,58 +1,44 @@
 // The row checks over a lent log (01, Order of checks, Rows): the command's list, then each group in walk order; within a
 // list the members in order, then the first missing row. What a list's rows are stands in `admitted` and `requirements`.
 ghost use mathlib.Core.Path.{_≡_};
+ghost use mathlib.Core.Bool.{cond};
 ghost use Prim.Native.Nat.{_+_, _≤_, _<_};
 ghost use lib.ListN.{drop};
 ghost use Rattle.rules.specs.Rows.{admitsOthers};
 ghost use Rattle.rules.specs.Dictionary.{dictionary};
-ghost use Rattle.rules.specs.RowChecks.{counted, byAdmission, listOutcome, groupsOutcome, rowsOutcome};
+ghost use Rattle.rules.specs.RowChecks.{countedAt, memberFault, listOutcome, groupsOutcome, rowsOutcome};
 ghost use Rattle.log.specs.Log.{avpOf, avpsIn};
-ghost use Rattle.rows.specs.Counts.{HasPlace, HasRoom};
+ghost use Rattle.rows.specs.Counts.{HasRoom};
 ghost use Rattle.rows.specs.Groups.{groupAt};
 use rules::Admission;
 use rules::Avp;
-use rules::Definition;
-use rules::Form;
 use rules::Grammar;
+use rules::Members;
 use rules::Outcome;
 
 mod admitted;
 mod faults;
 mod requirements;
 
-// The row counts with one more member.
-fn counted(counts: [u16; 24], admission: Admission) -> [u16; 24]
-    requires { ⌜ HasPlace admission ⌝ }
-    requires { ⌜ HasRoom counts ⌝ }
-    ensures { λ r. ⌜ r ≡ counted counts admission ⌝ }
+// The row counts with one more member of a row.
+fn counted(counts: [u16; 24], row: usize) -> [u16; 24]
+    requires place { ⌜ row < 24 ⌝ }
+    requires room { ⌜ HasRoom counts ⌝ }
+    ensures { λ r. ⌜ r ≡ countedAt counts row ⌝ }
 {
     let mut more = counts;
-    if let Admission::ByRow { row, mark: _ } = admission {
-        more[row] = more[row] + 1;
-    }
+    more[row] = more[row] + 1;
     more
 }
 
-// A member with the row that names it.
-fn member_outcome(
-    grammar: Grammar,
-    counts: [u16; 24],
-    first: bool,
-    a: Avp,
-    admission: Admission,
-) -> Outcome
-    requires { ⌜ HasPlace admission ⌝ }
-    ensures { λ r. ⌜ r ≡ byAdmission (admitsOthers grammar) counts first a admission ⌝ }
+// A member that no row names.
+fn without_row(grammar: Grammar, a: Avp) -> Outcome
+    ensures { λ r. ⌜ r ≡ cond (admitsOthers grammar) Outcome.Pass (memberFault 5008 a) ⌝ }
 {
-    match admission {
-        Admission::ByRow { row, mark } => faults::by_mark(mark, 0 < counts[row], first, a),
-        Admission::NoRow => {
-            if admitted::admits_others(grammar) {
-                return Outcome::Pass;
-            }
-            avp::member_fault(5008, a)
-        }
+    if admitted::admits_others(grammar) {
+        return Outcome::Pass;
     }
+    avp::member_fault(5008, a)
 }
 
 // The list at a depth whose members follow from a position on, up to the first AVP above that depth; deeper ones belong to
@@ -81,12 +67,19 @@ fn list_outcome(
         if depth < level {
             continue;
         }
-        let admission = admitted::row_of(grammar, a.vendor, a.code);
-        let outcome = member_outcome(grammar, counts, first, a, admission);
-        if let Outcome::Refused(_) = outcome {
+        let Admission::ByRow { row, mark } = admitted::row_of(grammar, a.vendor, a.code) else {
+            let other = without_row(grammar, a);
+            let Outcome::Pass = other else {
+                return other;
+            };
+            first = false;
+            continue;
+        };
+        let outcome = faults::by_mark(mark, 0 < counts[row], first, a);
+        let Outcome::Pass = outcome else {
             return outcome;
-        }
-        let more = counted(counts, admission);
+        };
+        let more = counted(counts, row);
         counts = more;
         first = false;
     }
@@ -99,19 +92,12 @@ fn group_outcome(log: &[u32; 1792], position: usize, count: usize) -> Outcome
     ensures { λ r. ⌜ r ≡ groupAt (avpOf (now (log .entry)) position) (drop (position + 1) (avpsIn (now (log .entry)) count)) ⌝ }
 {
     let a = log::get(log, position);
-    let definition = dictionary::definition(a.vendor, a.code);
-    let Definition::Known { m: _, form } = definition else {
+    let Members::Under(grammar) = dictionary::members(a.vendor, a.code) else {
         return Outcome::Pass;
     };
-    match form {
-        Form::Any => Outcome::Pass,
-        Form::Fixed(_) => Outcome::Pass,
-        Form::Group(grammar) => {
-            let depth = a.depth as usize;
-            let end = log::data_end(log, position);
-            list_outcome(log, position + 1, count, grammar, depth + 1, end)
-        }
-    }
+    let depth = a.depth as usize;
+    let end = log::data_end(log, position);
+    list_outcome(log, position + 1, count, grammar, depth + 1, end)
 }
 
 // Each group in walk order.

@@ -11,7 +11,10 @@ use Rattle.rules.specs.declared.Definition.{Definition}
 use Rattle.rules.specs.declared.Definition.the-variants.{Known, Unknown}
 use Rattle.rules.specs.declared.Admission.{Admission}
 use Rattle.rules.specs.declared.Admission.the-variants.{ByRow, NoRow}
-use Rattle.rules.specs.Dictionary.{Entry, find}
+use Rattle.rules.specs.declared.Form.{Form}
+use Rattle.rules.specs.declared.Form.the-variants.{Any, Fixed, Group}
+use Rattle.rules.specs.declared.Members.the-variants.{NoMembers}
+use Rattle.rules.specs.Dictionary.{Entry, find, membersIn, membersOf, hasMembers}
 use Rattle.rules.specs.Rows.{Row}
 use Rattle.rules.specs.RowChecks.{admissionFrom}
 
@@ -116,6 +119,39 @@ pub find-absent-vendor : (es : List Entry) (vendors : List ℕ) (vendor code : �
     → Absent vendors vendor → Unknown ≡ find es vendor code
 find-absent-vendor es vendors vendor code t h =
     absent-vendor Unknown (entryNames es) vendors vendor code t h ∙ find-names es vendor code
+
+-- ---- the groups of the dictionary: a `match` that has them alone
+
+-- a vendor's groups before others, the last first
+abbrev pub groupCodes : ℕ → List Entry → List ℕ → List ℕ
+groupCodes vendor [] others = others
+groupCodes vendor (e ∷ es) others =
+    groupCodes vendor es (consIf (eqb vendor (e .vendor) && hasMembers (membersIn (e .form))) (e .code) others)
+
+either-way : (b : Bool) (d e : Definition) → membersOf d ≡ NoMembers → membersOf e ≡ NoMembers → membersOf (cond b d e) ≡ NoMembers
+either-way true d e p q = p
+either-way false d e p q = q
+
+group-passed-over : (same m : Bool) (form : Form) (code k : ℕ) (others : List ℕ) (d : Definition) → membersOf d ≡ NoMembers
+    → Absent (consIf (same && hasMembers (membersIn form)) k others) code
+    → (membersOf (cond (same && eqb code k) (Known m form) d) ≡ NoMembers) × Absent others code
+group-passed-over true m (Group g) code k others d p q = (rw (ne-eqb code k (q .1)) p, q .0)
+group-passed-over true m Any code k others d p q = (either-way (eqb code k) (Known m Any) d refl p, q)
+group-passed-over true m (Fixed w) code k others d p q = (either-way (eqb code k) (Known m (Fixed w)) d refl p, q)
+group-passed-over false m form code k others d p q = (p, q)
+
+groups-before : (es : List Entry) (vendor code : ℕ) (others : List ℕ) → Absent (groupCodes vendor es others) code
+    → (membersOf (find es vendor code) ≡ NoMembers) × Absent others code
+unfolding find
+groups-before [] vendor code others h = (refl, h)
+groups-before (e ∷ es) vendor code others h =
+    let same = eqb vendor (e .vendor) in
+    let r = groups-before es vendor code (consIf (same && hasMembers (membersIn (e .form))) (e .code) others) h in
+    group-passed-over same (e .m) (e .form) code (e .code) others (find es vendor code) (r .0) (r .1)
+
+pub no-group : (es : List Entry) (vendor code : ℕ) → Absent (groupCodes vendor es []) code
+    → NoMembers ≡ membersOf (find es vendor code)
+no-group es vendor code h = sym (groups-before es vendor code [] h .0)
 
 -- ---- rows, counted from i
 

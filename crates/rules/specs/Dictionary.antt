@@ -8,6 +8,8 @@ use Rattle.rules.specs.declared.Form.{Form}
 use Rattle.rules.specs.declared.Form.the-variants.{Any, Fixed, Group}
 use Rattle.rules.specs.declared.Definition.{Definition}
 use Rattle.rules.specs.declared.Definition.the-variants.{Known, Unknown}
+use Rattle.rules.specs.declared.Members.{Members}
+use Rattle.rules.specs.declared.Members.the-variants.{Under, NoMembers}
 use Rattle.rules.specs.declared.Grammar.the-variants.{VendorSpecificApplicationId, ExperimentalResult, ProxyInfo, SupportedFeatures, TimeWindow, TransferPolicy}
 
 pub record Entry : Type 0 where
@@ -66,15 +68,23 @@ abbrev pub isKnown : Definition → Bool
 isKnown (Known m form) = true
 isKnown Unknown = false
 
+-- the rows that a group's members go by
+abbrev pub membersIn : Form → Members
+membersIn Any = NoMembers
+membersIn (Fixed w) = NoMembers
+membersIn (Group g) = Under g
+
+abbrev pub membersOf : Definition → Members
+membersOf (Known m form) = membersIn form
+membersOf Unknown = NoMembers
+
 -- a group whose data is read
-abbrev pub isGroupForm : Form → Bool
-isGroupForm Any = false
-isGroupForm (Fixed w) = false
-isGroupForm (Group g) = true
+abbrev pub hasMembers : Members → Bool
+hasMembers (Under g) = true
+hasMembers NoMembers = false
 
 abbrev pub isGroup : Definition → Bool
-isGroup (Known m form) = isGroupForm form
-isGroup Unknown = false
+isGroup d = hasMembers (membersOf d)
 
 -- whether data of this length meets the form's width
 abbrev pub fitsForm : Form → ℕ → Bool

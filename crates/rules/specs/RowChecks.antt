@@ -8,9 +8,8 @@ use lib.Dec.{ltb, eqb}
 use Rattle.rules.specs.declared.Avp.{Avp}
 use Rattle.rules.specs.declared.Outcome.{Outcome}
 use Rattle.rules.specs.declared.Outcome.the-variants.{Pass}
-use Rattle.rules.specs.declared.Form.the-variants.{Any, Fixed, Group}
-use Rattle.rules.specs.declared.Definition.{Definition}
-use Rattle.rules.specs.declared.Definition.the-variants.{Known, Unknown}
+use Rattle.rules.specs.declared.Members.{Members}
+use Rattle.rules.specs.declared.Members.the-variants.{Under, NoMembers}
 use Rattle.rules.specs.declared.Mark.{Mark}
 use Rattle.rules.specs.declared.Mark.the-variants.{First, Once, AtMostOnce, AnyNumber}
 use Rattle.rules.specs.declared.Admission.{Admission}
@@ -19,7 +18,7 @@ use Rattle.rules.specs.declared.Grammar.{Grammar}
 use Rattle.rules.specs.Verdict.{refused, refuseIf, orElse}
 use Rattle.rules.specs.Avp.{placeOf, endOf}
 use Rattle.rules.specs.Rows.{Row, rowsOf, admitsOthers}
-use Rattle.rules.specs.Dictionary.{Entry, defined}
+use Rattle.rules.specs.Dictionary.{Entry, defined, membersOf}
 
 -- the row that names an AVP, counted from i
 unfoldable pub admissionFrom : ℕ → List Row → ℕ → ℕ → Admission
@@ -34,8 +33,11 @@ admission g vendor code = admissionFrom 0 (rowsOf g) vendor code
 abbrev pub noneMet : List ℕ
 noneMet = replicate 24 0
 
+abbrev pub countedAt : List ℕ → ℕ → List ℕ
+countedAt counts row = set counts row (getD counts row 0 + 1)
+
 abbrev pub counted : List ℕ → Admission → List ℕ
-counted counts (ByRow row mark) = set counts row (getD counts row 0 + 1)
+counted counts (ByRow row mark) = countedAt counts row
 counted counts NoRow = counts
 
 abbrev pub memberFault : ℕ → Avp → Outcome
@@ -88,16 +90,14 @@ membersAt depth (a ∷ xs) =
 abbrev pub listOutcome : Grammar → ℕ → ℕ → List Avp → Outcome
 listOutcome g depth end xs = membersOutcome g end noneMet true (membersAt depth xs)
 
--- an AVP of the walk with those after it: where it is a group, its list
-abbrev pub groupOutcome : Definition → Avp → List Avp → Outcome
-groupOutcome (Known m Any) a xs = Pass
-groupOutcome (Known m (Fixed w)) a xs = Pass
-groupOutcome (Known m (Group g)) a xs = listOutcome g (a .depth + 1) (endOf a) xs
-groupOutcome Unknown a xs = Pass
+-- an AVP of the walk with those after it: where it has members, its list
+abbrev pub groupOutcome : Members → Avp → List Avp → Outcome
+groupOutcome (Under g) a xs = listOutcome g (a .depth + 1) (endOf a) xs
+groupOutcome NoMembers a xs = Pass
 
 unfoldable pub groupsOutcome : List Entry → List Avp → Outcome
 groupsOutcome dict [] = Pass
-groupsOutcome dict (a ∷ xs) = orElse (groupOutcome (defined dict a) a xs) (groupsOutcome dict xs)
+groupsOutcome dict (a ∷ xs) = orElse (groupOutcome (membersOf (defined dict a)) a xs) (groupsOutcome dict xs)
 
 -- the command's list, which ends at `end`, then each group in walk order
 unfoldable pub rowsOutcome : List Entry → Grammar → ℕ → List Avp → Outcome

@@ -86,6 +86,12 @@ pub enum Definition {
     Unknown,
 }
 
+// What a group's members go by: the rows of a list, or nothing, where the data is not read as a list.
+pub enum Members {
+    Under(Grammar),
+    NoMembers,
+}
+
 // The mark of a row: ! first and once, 1 once, ? at most once, * any number.
 pub enum Mark {
     First,

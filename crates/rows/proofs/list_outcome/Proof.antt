@@ -4,16 +4,18 @@ use borrow.Author.Needs.{needs}
 use mathlib.Core.Path.{_≡_, refl, sym, ap, _∙_}
 use mathlib.Core.List.{List, [], _∷_}
 use mathlib.Core.Bool.{Bool, false}
-use Prim.Native.Nat.{ℕ, _+_, _-_, _≤_}
+use Prim.Native.Nat.{ℕ, _+_, _-_, _≤_, _<_}
 use native.Mathlib.Omega.{arith}
 use lib.ListN.{getD, drop}
 use Rattle.rules.specs.declared.Avp.{Avp}
 use Rattle.rules.specs.declared.Outcome.{Outcome}
+use Rattle.rules.specs.declared.Admission.{Admission}
+use Rattle.rules.specs.declared.Admission.the-variants.{ByRow, NoRow}
 use Rattle.rules.specs.Verdict.{orElse}
-use Rattle.rules.specs.RowChecks.{counted, membersOutcome, membersAt, listOutcome}
+use Rattle.rules.specs.Rows.{admitsOthers}
+use Rattle.rules.specs.RowChecks.{counted, byAdmission, membersOutcome, membersAt, listOutcome}
 use Rattle.log.specs.Log.{avpsIn}
 use Rattle.log.proofs.Log.{avps-cons, avps-end}
-use Rattle.rows.specs.Counts.{HasPlace}
 use Rattle.rows.proofs.Rows.{admission-below}
 use Rattle.rules.proofs.Outcomes.{refused-first, pass-first}
 use Rattle.rows.proofs.Members.{members-none, members-above, members-deeper, members-next, counted-at-most, none-met}
@@ -85,53 +87,107 @@ loop-again c =
 row-of-requires : tie.Need-row-of-requires Inv-loop μ-loop
 row-of-requires c κs = search needs
 
-place : (c : tie.After-row-of Inv-loop μ-loop) → HasPlace (c .row-of .result)
-place c = record { place = λ row mark e. admission-below _ _ _ row mark (sym (c .row-of .ensures) ∙ e) }
-
-member-outcome-requires : tie.Need-member-outcome-requires Inv-loop μ-loop
-member-outcome-requires c κs = place c
+enum-known-row : tie.Need-enum-known-row Inv-loop μ-loop
+enum-known-row c = search needs
 
 enum-told : tie.Need-enum-told Inv-loop μ-loop
 enum-told c = search needs
 
--- the invariant, with the member's outcome and its row counted
-next : (c : tie.After-member-outcome Inv-loop μ-loop) →
-    let l = c .before .before .before .before .before .before .before .loop in
-    let s = c .before .before .before .before .before .before .before .before in
-    orElse (c .member-outcome .result) (outcome s (counted (l .counts) (c .before .row-of .result)) false (drop (l .i + 1) (avps s)))
-    ≡ whole s
-next c =
-    sym (members-next _ _ _ _ _ _ _ _ _ (omega arith) (c .before .row-of .ensures) (c .member-outcome .ensures))
-    ∙ here (c .before .before .before .before .before)
+-- the invariant, with the row that names the member, what that says, and its count
+next : (c : tie.After-row-of Inv-loop μ-loop) →
+    let l = c .before .before .before .before .before .before .loop in
+    let s = c .before .before .before .before .before .before .before in
+    (m : Admission) (o : Outcome) → c .row-of .result ≡ m
+    → o ≡ byAdmission (admitsOthers (s .args .grammar)) (l .counts) (l .first) (c .before .before .before .before .get .result) m
+    → orElse o (outcome s (counted (l .counts) m) false (drop (l .i + 1) (avps s))) ≡ whole s
+next c m o p q =
+    sym (members-next _ _ _ _ _ _ _ m o (omega arith) (sym p ∙ c .row-of .ensures) q) ∙ here (c .before .before .before .before)
 
-returns-2 : tie.Need-returns-2 Inv-loop μ-loop
-returns-2 c = sym (refused-first _ _ (c .enum-told .given .1)) ∙ next (c .before .before)
+-- a member without row
+without-row-requires : tie.Need-without-row-requires Inv-loop μ-loop
+without-row-requires c κs = search needs
+
+unnamed : (c : tie.After-without-row Inv-loop μ-loop) →
+    let r = c .before .before .before in
+    let l = r .before .before .before .before .before .before .loop in
+    let s = r .before .before .before .before .before .before .before in
+    orElse (c .without-row .result) (outcome s (l .counts) false (drop (l .i + 1) (avps s))) ≡ whole s
+unnamed c = next (c .before .before .before) NoRow _ (c .before .enum-told .given .1) (c .without-row .ensures)
 
 enum-told-2 : tie.Need-enum-told-2 Inv-loop μ-loop
 enum-told-2 c = search needs
 
-counted-requires : tie.Need-counted-requires Inv-loop μ-loop
-counted-requires c κs =
-    let m = c .before .before in
-    let a = m .before .before .before .before .before .before in
-    (place (m .before), record { room = λ row. omega (arith, a .before .loop .inv .0 row) })
+enum-told-3 : tie.Need-enum-told-3 Inv-loop μ-loop
+enum-told-3 c = search needs
+
+returns-2 : tie.Need-returns-2 Inv-loop μ-loop
+returns-2 c = sym (refused-first _ _ (c .enum-told3 .given .1)) ∙ unnamed (c .before .before)
 
 loop-less-2 : tie.Need-loop-less-2 Inv-loop μ-loop
 loop-less-2 c = omega arith
 
 loop-again-2 : tie.Need-loop-again-2 Inv-loop μ-loop
 loop-again-2 c =
-    let m = c .before .before .before in
-    let l = m .before .before .before .before .before .before .before .loop in (
-      rw (c .counted .ensures) (counted-at-most (l .counts) (m .before .row-of .result) (l .i) (l .inv .0)),
-      rw (c .counted .ensures) (sym (pass-first _ _ (c .before .enum-told2 .given .1)) ∙ next m),
+    let r = c .before .before .before .before .before in
+    let l = r .before .before .before .before .before .before .loop in (
+      λ row. omega (arith, l .inv .0 row),
+      sym (pass-first _ _ (c .enum-told2 .given .1)) ∙ unnamed (c .before .before),
+    )
+
+-- a member with a row
+row-below : (c : tie.After-known-told Inv-loop μ-loop) → c .before .row .given .0 .0 < 24
+row-below c = admission-below _ _ _ _ _ (sym (c .before .before .before .row-of .ensures) ∙ c .before .row .given .1)
+
+mul-by-mark : tie.Need-mul-by-mark Inv-loop μ-loop
+mul-by-mark c = omega (arith, row-below c)
+
+array-read-by-mark : tie.Need-array-read-by-mark Inv-loop μ-loop
+array-read-by-mark c = omega (arith, row-below c)
+
+by-mark-requires : tie.Need-by-mark-requires Inv-loop μ-loop
+by-mark-requires c κs = search needs
+
+named : (c : tie.After-by-mark Inv-loop μ-loop) →
+    let k = c .before .before in
+    let l = k .before .before .before .before .before .before .before .before .loop in
+    let s = k .before .before .before .before .before .before .before .before .before in
+    orElse (c .by-mark .result)
+    (outcome s (counted (l .counts) (ByRow (k .row .given .0 .0) (k .row .given .0 .1 .0))) false (drop (l .i + 1) (avps s)))
+    ≡ whole s
+named c = next (c .before .before .before .before) (ByRow _ _) _ (c .before .before .row .given .1) (c .by-mark .ensures)
+
+enum-told-4 : tie.Need-enum-told-4 Inv-loop μ-loop
+enum-told-4 c = search needs
+
+enum-told-5 : tie.Need-enum-told-5 Inv-loop μ-loop
+enum-told-5 c = search needs
+
+returns-3 : tie.Need-returns-3 Inv-loop μ-loop
+returns-3 c = sym (refused-first _ _ (c .enum-told5 .given .1)) ∙ named (c .before .before)
+
+counted-requires : tie.Need-counted-requires Inv-loop μ-loop
+counted-requires c κs =
+    let k = c .before .before .before in
+    let l = k .before .before .before .before .before .before .before .before .before .loop in
+    (row-below k, record { room = λ row. omega (arith, l .inv .0 row) })
+
+loop-less-3 : tie.Need-loop-less-3 Inv-loop μ-loop
+loop-less-3 c = omega arith
+
+loop-again-3 : tie.Need-loop-again-3 Inv-loop μ-loop
+loop-again-3 c =
+    let b = c .before .before .before in
+    let k = b .before .before in
+    let l = k .before .before .before .before .before .before .before .before .loop in (
+      rw (c .counted .ensures) (counted-at-most (l .counts) (ByRow (k .row .given .0 .0) (k .row .given .0 .1 .0)) (l .i) (l .inv .0)),
+      rw (c .counted .ensures) (sym (pass-first _ _ (c .before .enum-told4 .given .1)) ∙ named b),
     )
 
 missing-row-requires-2 : tie.Need-missing-row-requires-2 Inv-loop μ-loop
 missing-row-requires-2 c κs = search needs
 
-returns-3 : tie.Need-returns-3 Inv-loop μ-loop
-returns-3 c =
+returns-4 : tie.Need-returns-4 Inv-loop μ-loop
+returns-4 c =
     let l = c .before .before .loop in
     let s = c .before .before .before in
     let e : drop (l .i) (avps s) ≡ [] = avps-end (s .args .log .now) (s .args .count) (l .i) (s .pre) (c .before .loop-test .left) in
@@ -152,12 +208,22 @@ list-outcome-spec =
     loop-less
     loop-again
     row-of-requires
-    member-outcome-requires
+    enum-known-row
     enum-told
-    returns-2
+    without-row-requires
     enum-told-2
-    counted-requires
+    enum-told-3
+    returns-2
     loop-less-2
     loop-again-2
+    mul-by-mark
+    array-read-by-mark
+    by-mark-requires
+    enum-told-4
+    enum-told-5
+    returns-3
+    counted-requires
+    loop-less-3
+    loop-again-3
     missing-row-requires-2
-    returns-3)
+    returns-4)
