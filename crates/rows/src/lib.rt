@@ -61,7 +61,7 @@ fn list_outcome(
         let a = log::get(log, i);
         let level = a.depth as usize;
         if level < depth {
-            return requirements::missing_row(grammar, counts, end);
+            return requirements::missing_row(grammar, &counts, end);
         }
         i += 1;
         if depth < level {
@@ -83,7 +83,7 @@ fn list_outcome(
         counts = more;
         first = false;
     }
-    requirements::missing_row(grammar, counts, end)
+    requirements::missing_row(grammar, &counts, end)
 }
 
 // The AVP at a position with those after it: where it is a group, its list.

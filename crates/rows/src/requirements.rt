@@ -164,9 +164,9 @@ pub fn required(grammar: Grammar, k: usize) -> Required
     }
 }
 
-// The first missing row of a list that ends at `end`.
-pub fn missing_row(grammar: Grammar, counts: [u16; 24], end: u32) -> Outcome
-    ensures { λ r. ⌜ r ≡ missing grammar counts end ⌝ }
+// The first missing row of a list that ends at `end`. The counts are only looked at, so they are lent.
+pub fn missing_row(grammar: Grammar, counts: &[u16; 24], end: u32) -> Outcome
+    ensures { λ r. ⌜ r ≡ missing grammar (now (counts .entry)) end ⌝ }
 {
     let mut k: usize = 0;
     while k < 24 {

@@ -68,8 +68,8 @@ missing-row-requires c κs = search needs
 returns : tie.Need-returns Inv-loop μ-loop
 returns c =
     c .missing-row .ensures
-    ∙ sym (members-above _ _ _ _ _ _ _ (c .before .if1 .taken))
-    ∙ here (c .before .before .before)
+    ∙ sym (members-above _ _ _ _ _ _ _ (c .before .before .if1 .taken))
+    ∙ here (c .before .before .before .before)
 
 add-i : tie.Need-add-i Inv-loop μ-loop
 add-i c = omega arith
@@ -188,9 +188,9 @@ missing-row-requires-2 c κs = search needs
 
 returns-4 : tie.Need-returns-4 Inv-loop μ-loop
 returns-4 c =
-    let l = c .before .before .loop in
-    let s = c .before .before .before in
-    let e : drop (l .i) (avps s) ≡ [] = avps-end (s .args .log .now) (s .args .count) (l .i) (s .pre) (c .before .loop-test .left) in
+    let l = c .before .before .before .loop in
+    let s = c .before .before .before .before in
+    let e : drop (l .i) (avps s) ≡ [] = avps-end (s .args .log .now) (s .args .count) (l .i) (s .pre) (c .before .before .loop-test .left) in
     c .missing-row2 .ensures ∙ sym (members-none _ _ _ _ _) ∙ (rw e at (l .inv .1))
 
 pub list-outcome-spec : {M : Type 1} → statement M

@@ -11,10 +11,10 @@ use Rattle.rows.proofs.requirements.missing_row.Statement.{statement}
 use Rattle.rows.proofs.requirements.missing_row.Tie as tie
 
 abbrev Inv-loop : tie.InvT-loop
-Inv-loop grammar end counts k₀ k = missingAmong (drop k (requiredOf grammar)) counts end ≡ missing grammar counts end
+Inv-loop grammar counts end k₀ k = missingAmong (drop k (requiredOf grammar)) counts end ≡ missing grammar counts end
 
 abbrev μ-loop : tie.MeasureT-loop
-μ-loop grammar end counts k₀ k = 24 - k
+μ-loop grammar counts end k₀ k = 24 - k
 
 loop-holds : tie.Need-loop-holds Inv-loop μ-loop
 loop-holds c = sym (missing-first _ _ _)
@@ -42,15 +42,15 @@ row-below c =
 mul-if1 : tie.Need-mul-if1 Inv-loop μ-loop
 mul-if1 c = omega (arith, row-below c)
 
-array-read-if1 : tie.Need-array-read-if1 Inv-loop μ-loop
-array-read-if1 c = omega (arith, row-below c)
+element-copy-out-if1 : tie.Need-element-copy-out-if1 Inv-loop μ-loop
+element-copy-out-if1 c = omega (arith, row-below c)
 
 refusal-requires : tie.Need-refusal-requires Inv-loop μ-loop
 refusal-requires c κs = search needs
 
 returns-2 : tie.Need-returns-2 Inv-loop μ-loop
 returns-2 c =
-    let n = c .before .before .before in
+    let n = c .before .before .before .before in
     let r = n .before .before in
     let l = r .before .before .loop in
     c .refusal .ensures
@@ -65,7 +65,7 @@ loop-less c = omega arith
 
 loop-again : tie.Need-loop-again Inv-loop μ-loop
 loop-again c =
-    let n = c .before .before in
+    let n = c .before .before .before in
     let r = n .before .before in
     let l = r .before .before .loop in
     sym (missing-later _ _ _ (l .k) _ _ _ (sym (n .next .given .1) ∙ r .required .ensures) (c .if1 .left)) ∙ l .inv
@@ -85,7 +85,7 @@ missing-row-spec =
     enum-told
     returns
     mul-if1
-    array-read-if1
+    element-copy-out-if1
     refusal-requires
     returns-2
     add-k
