@@ -18,3 +18,8 @@ pub mod Passed
 pub mod OneItem
 pub mod Soundness
 pub mod Commands
+pub mod Depths
+pub mod Paddings
+pub mod Places
+pub mod Alike
+pub mod Agreement
