@@ -23,3 +23,8 @@ pub mod Paddings
 pub mod Places
 pub mod Alike
 pub mod Agreement
+pub mod Contents
+pub mod Passes
+pub mod Exchanges
+pub mod Canonical
+pub mod RoundTrip
