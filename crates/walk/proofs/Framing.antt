@@ -1,29 +1,37 @@
--- What check 2 tells of an AVP that passes it, and the fields of an AVP in the rest of its list.
-use mathlib.Core.Path.{_≡_, sym, ap, _∙_}
-use mathlib.Core.Bool.{Bool}
+-- What check 2 tells of an AVP that passes it, and check 2 by the fields that are read from the rest of the list.
+use mathlib.Core.Path.{_≡_, refl, sym, ap, _∙_}
+use mathlib.Core.Bool.{Bool, true, false}
 use mathlib.Core.List.{List}
-use Prim.Native.Nat.{ℕ, _+_, _-_, _≤_}
+use Prim.Native.Nat.{ℕ, _+_, _-_, _≤_, _<_}
 use native.Mathlib.Nat.{add-zero}
 use native.Mathlib.Omega.{arith}
 use borrow.Author.Tests.{ltb-true, ltb-false}
 use lib.Dec.{ltb}
 use lib.ListN.{length, getD, take, drop, length-drop}
 use lib.Seq.{length-take-le, getD-take, getD-drop}
-use Rattle.rules.specs.declared.Outcome.the-variants.{Pass}
+use Rattle.rules.specs.declared.Avp.{Avp}
+use Rattle.rules.specs.declared.Verdict.{Verdict}
+use Rattle.rules.specs.declared.Outcome.{Outcome}
+use Rattle.rules.specs.declared.Outcome.the-variants.{Pass, Refused}
+use Rattle.rules.specs.declared.Checked.the-variants.{Fault}
 use Rattle.rules.specs.Octets.{numberAt}
-use Rattle.rules.specs.Avp.{codeAt, flagsAt, flagV, lengthAt}
-use Rattle.rules.specs.Walk.{framing}
+use Rattle.rules.specs.Avp.{codeAt, flagsAt, flagV, lengthAt, avpAt}
+use Rattle.rules.specs.Dictionary.{dictionary}
+use Rattle.rules.specs.Walk.{framedBy, framing, checkedAvp, checked}
 use Rattle.rules.proofs.Octets.{numberAt-part}
-use Rattle.rules.proofs.Walk.{by-cases, never, framedBy-fits, framing-left, framing-plain, framing-vendor-left, framing-vendor}
-use Rattle.walk.specs.Promise.{InList, Framed}
+use Rattle.rules.proofs.Fields.{avpAt-plain, avpAt-vendor}
+use Rattle.rules.proofs.Walk.{by-cases, never, framedBy-fits, framing-left, framing-plain, framing-vendor-left, framing-vendor, checked-frame}
+use Rattle.walk.specs.declared.frame.Frame.{Frame}
+use Rattle.walk.specs.declared.frame.Frame.the-variants.{Holds, Broken}
+use Rattle.walk.specs.Promise.{InList, frameOf, broken, avpBy, frameBy, Framed}
 
 module _ (s : List ℕ) (at end : ℕ) (order : at ≤ end) (pass : framing s at end ≡ Pass) where
-  framed-plain : 8 ≤ end - at → flagV (flagsAt s at) ≡ Bool.false → Framed s at end
+  framed-plain : 8 ≤ end - at → flagV (flagsAt s at) ≡ false → Framed s at end
   framed-plain h v =
       let fits = framedBy-fits at (end - at) 8 (lengthAt s at) 0 (codeAt s at) (sym (framing-plain s at end h v) ∙ pass) in
       record { eight = omega arith; header = rw v (fits .0); fits = omega arith }
 
-  framed-vendor : 12 ≤ end - at → flagV (flagsAt s at) ≡ Bool.true → Framed s at end
+  framed-vendor : 12 ≤ end - at → flagV (flagsAt s at) ≡ true → Framed s at end
   framed-vendor h v =
       let fits = framedBy-fits at (end - at) 12 (lengthAt s at) (numberAt 4 s (at + 8)) (codeAt s at) (sym (framing-vendor s at end h v) ∙ pass) in
       record { eight = omega arith; header = rw v (fits .0); fits = omega arith }
@@ -37,6 +45,30 @@ module _ (s : List ℕ) (at end : ℕ) (order : at ≤ end) (pass : framing s at
       (λ k. never (sym (framing-vendor-left s at end (ltb-false _ _ l) v (ltb-true _ _ k)) ∙ pass))
       (λ k. framed-vendor (ltb-false _ _ k) v))
       (λ v. framed-plain (ltb-false _ _ l) v))
+
+-- ---- what check 2 handed back
+
+holds-is : (o : Outcome) (a x : Avp) → Holds a ≡ frameOf o x → (o ≡ Pass) × (x ≡ a)
+holds-is Pass a x e = (refl, cc)
+holds-is (Refused v) a x e = let z : _≡_ {A = ℕ} 0 1 = cc in absurd (omega arith)
+
+broken-is : (o : Outcome) (v : Verdict) (x : Avp) → Broken v ≡ frameOf o x → o ≡ Refused v
+broken-is Pass v x e = let z : _≡_ {A = ℕ} 0 1 = cc in absurd (omega arith)
+broken-is (Refused u) v x e = cc
+
+module _ (s : List ℕ) (at end depth : ℕ) where
+  pub holds-framed : at ≤ end → {a : Avp} → Holds a ≡ frameOf (framing s at end) (avpAt s at depth) → Framed s at end
+  holds-framed order {a} e = frame-framed s at end order (holds-is (framing s at end) a (avpAt s at depth) e .0)
+
+  pub holds-checked : {a : Avp} → Holds a ≡ frameOf (framing s at end) (avpAt s at depth)
+      → checked dictionary s at end depth ≡ checkedAvp dictionary s at a
+  unfolding checked
+  holds-checked {a} e =
+      let h = holds-is (framing s at end) a (avpAt s at depth) e in
+      rw (h .0, h .1)
+
+  pub broken-checked : {v : Verdict} → Broken v ≡ frameOf (framing s at end) (avpAt s at depth) → checked dictionary s at end depth ≡ Fault v
+  broken-checked {v} e = checked-frame dictionary s at end depth (broken-is (framing s at end) v (avpAt s at depth) e)
 
 -- ---- the fields of an AVP, read from the rest of its list
 
@@ -56,3 +88,42 @@ module _ (s : List ℕ) (at end : ℕ) (place : InList s at end) where
 
   pub rest-flags : 8 ≤ end - at → getD restOf 4 0 ≡ flagsAt s at
   rest-flags h = getD-take (end - at) (drop at s) 4 0 (omega arith) ∙ getD-drop at s 4 0
+
+  module _ (depth : ℕ) where
+    -- what check 2 hands back, in terms of the list
+    abbrev frameAt : Frame
+    frameAt = frameOf (framing s at end) (avpAt s at depth)
+
+    pub read-left : length restOf < 8 → broken at 0 0 ≡ frameAt
+    read-left h = rw (framing-left s at end (rw rest-left at h))
+
+    module _ (eight : 8 ≤ length restOf) {code : ℕ} (codeIs : code ≡ numberAt 4 restOf 0) where
+      left : 8 ≤ end - at
+      left = rw rest-left at eight
+
+      pub read-vendor-left : flagV (getD restOf 4 0) ≡ true → length restOf < 12 → broken at 0 code ≡ frameAt
+      read-vendor-left v h =
+          rw (codeIs, rest-code left, framing-vendor-left s at end left (rw (rest-flags left) at v) (rw rest-left at h))
+
+      -- the header's size, with V or without, is an argument
+      read-by : {size : ℕ} → size ≡ numberAt 3 restOf 5 → (header vendor : ℕ)
+          → framing s at end ≡ framedBy at (end - at) header (lengthAt s at) vendor (codeAt s at)
+          → avpAt s at depth ≡ avpBy at depth header vendor (codeAt s at) (flagsAt s at) (lengthAt s at)
+          → frameBy at (length restOf) depth header vendor code (getD restOf 4 0) size ≡ frameAt
+      read-by sizeIs header vendor f a =
+          rw (codeIs, sizeIs, rest-left, rest-code left, rest-number 3 5 left, rest-flags left, f, a)
+
+      pub read-plain : {size : ℕ} → size ≡ numberAt 3 restOf 5 → flagV (getD restOf 4 0) ≡ false
+          → frameBy at (length restOf) depth 8 0 code (getD restOf 4 0) size ≡ frameAt
+      read-plain sizeIs v =
+          let w = rw (rest-flags left) at v in
+          read-by sizeIs 8 0 (framing-plain s at end left w) (avpAt-plain s at depth w)
+
+      pub read-vendor : {size : ℕ} → size ≡ numberAt 3 restOf 5 → flagV (getD restOf 4 0) ≡ true → 12 ≤ length restOf
+          → {vendor : ℕ} → vendor ≡ numberAt 4 restOf 8
+          → frameBy at (length restOf) depth 12 vendor code (getD restOf 4 0) size ≡ frameAt
+      read-vendor sizeIs v h vendorIs =
+          let w = rw (rest-flags left) at v in
+          let k = rw rest-left at h in
+          rw (vendorIs, rest-number 4 8 k)
+          (read-by sizeIs 12 (numberAt 4 s (at + 8)) (framing-vendor s at end k w) (avpAt-vendor s at depth w))

@@ -6,14 +6,19 @@ use mathlib.Core.List.{List, []}
 use mathlib.Core.Bool.{cond}
 use lib.ListN.{length}
 use lib.Dec.{ltb}
+use Rattle.rules.specs.declared.Avp.{Avp}
+use Rattle.rules.specs.declared.Outcome.{Outcome}
+use Rattle.rules.specs.declared.Outcome.the-variants.{Pass, Refused}
 use Rattle.rules.specs.Octets.{padded}
 use Rattle.rules.specs.Verdict.{verdict}
 use Rattle.rules.specs.Header.{longestCommand}
-use Rattle.rules.specs.Avp.{flagsAt, flagV, lengthAt, headerOf, nextAt}
+use Rattle.rules.specs.Avp.{flagsAt, flagV, flagM, flagP, lengthAt, headerOf, nextAt}
 use Rattle.rules.specs.Dictionary.{dictionary}
-use Rattle.rules.specs.Walk.{Walked, whole, stopped, avpsOf, walkAvp, walkList}
+use Rattle.rules.specs.Walk.{framedBy, Walked, whole, stopped, avpsOf, walkAvp, walkList}
 use Rattle.rules.specs.Command.{walkOf}
 use Rattle.log.specs.Log.{avpsIn, written}
+use Rattle.walk.specs.declared.frame.Frame.{Frame}
+use Rattle.walk.specs.declared.frame.Frame.the-variants.{Holds, Broken}
 use Rattle.walk.specs.declared.Walk.{Walk}
 use Rattle.walk.specs.declared.Walk.the-variants.{Whole, Stopped}
 
@@ -22,6 +27,31 @@ pub record InList (s : List ℕ) (at end : ℕ) : Type 0 where
   pub order : at ≤ end
   pub inside : end ≤ length s
   pub short : length s ≤ longestCommand
+
+-- what check 2 hands back: the AVP, unless it is refused
+abbrev pub frameOf : Outcome → Avp → Frame
+frameOf Pass a = Holds a
+frameOf (Refused v) a = Broken v
+
+abbrev pub broken : ℕ → ℕ → ℕ → Frame
+broken place vendor code = Broken (verdict 5014 place vendor code)
+
+-- the AVP at a place by the fields of its header
+abbrev pub avpBy : ℕ → ℕ → ℕ → ℕ → ℕ → ℕ → ℕ → Avp
+avpBy at depth header vendor code flags size = record {
+  depth = depth;
+  vendor = vendor;
+  code = code;
+  m = flagM flags;
+  p = flagP flags;
+  start = at + header;
+  length = size - header;
+}
+
+-- check 2 by the fields of the header
+abbrev pub frameBy : ℕ → ℕ → ℕ → ℕ → ℕ → ℕ → ℕ → ℕ → Frame
+frameBy at left depth header vendor code flags size =
+    frameOf (framedBy at left header size vendor code) (avpBy at depth header vendor code flags size)
 
 -- an AVP that passed check 2
 pub record Framed (s : List ℕ) (at end : ℕ) : Type 0 where
