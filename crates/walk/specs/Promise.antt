@@ -21,6 +21,8 @@ use Rattle.walk.specs.declared.frame.Frame.{Frame}
 use Rattle.walk.specs.declared.frame.Frame.the-variants.{Holds, Broken}
 use Rattle.walk.specs.declared.Walk.{Walk}
 use Rattle.walk.specs.declared.Walk.the-variants.{Whole, Stopped}
+use Rattle.walk.specs.declared.Step.{Step}
+use Rattle.walk.specs.declared.Step.the-variants.{On, Halted}
 
 -- a place of a list that lies in a command of admitted length
 pub record InList (s : List ℕ) (at end : ℕ) : Type 0 where
@@ -70,11 +72,21 @@ abbrev pub answerOf : ℕ → Walked → Walk
 answerOf count (whole xs) = Whole (count + length xs)
 answerOf count (stopped xs v) = Stopped v
 
+-- where the AVP after this one stands
+abbrev pub nextAfter : Avp → ℕ
+nextAfter a = a .start + padded (a .length)
+
+-- what the AVP walk hands back, with the place of the next AVP
+abbrev pub stepTo : ℕ → Walk → Step
+stepTo next (Whole count) = On count next
+stepTo next (Stopped v) = Halted v
+
 -- the AVP walk: the answer, the log, and where the next AVP stands
-pub record AvpWalked (s : List ℕ) (at end depth count : ℕ) (before : List ℕ) (r : Walk) (after : List ℕ) : Type 0 where
-  pub answer : (n : ℕ) → end - at ≤ suc n → r ≡ answerOf count (walkAvp (walkList n dictionary s) dictionary s at end depth count)
+pub record AvpWalked (s : List ℕ) (at end depth count : ℕ) (before : List ℕ) (r : Step) (after : List ℕ) : Type 0 where
+  pub answer : (n : ℕ) → end - at ≤ suc n
+      → r ≡ stepTo (nextAt s at) (answerOf count (walkAvp (walkList n dictionary s) dictionary s at end depth count))
   pub logged : (n : ℕ) → end - at ≤ suc n → after ≡ written before count (avpsOf (walkAvp (walkList n dictionary s) dictionary s at end depth count))
-  pub within : (c : ℕ) → r ≡ Whole c → (at < nextAt s at) × (nextAt s at ≤ end) × (c ≤ 256)
+  pub within : (c next : ℕ) → r ≡ On c next → (at < next) × (next ≤ end) × (c ≤ 256)
 
 -- the list walk
 pub record ListWalked (s : List ℕ) (at end depth count : ℕ) (before : List ℕ) (r : Walk) (after : List ℕ) : Type 0 where

@@ -3,9 +3,9 @@
 ghost use mathlib.Core.Path.{_≡_};
 ghost use Prim.Native.Nat.{_+_, _<_};
 ghost use Rattle.rules.specs.Octets.{padded};
-ghost use Rattle.rules.specs.Avp.{nextAt, avpAt};
+ghost use Rattle.rules.specs.Avp.{avpAt};
 ghost use Rattle.rules.specs.Walk.{framing};
-ghost use Rattle.walk.specs.Promise.{InList, frameOf, broken, frameBy};
+ghost use Rattle.walk.specs.Promise.{InList, frameOf, broken, frameBy, nextAfter};
 use rules::Avp;
 use rules::Verdict;
 
@@ -17,18 +17,18 @@ pub(crate) enum Frame {
 
 // A length with the padding to a multiple of four.
 fn padded_length(length: usize) -> usize
-    requires { ⌜ length < 16777216 ⌝ }
+    requires { ⌜ length < 4294967296 ⌝ }
     ensures { λ r. ⌜ r ≡ padded length ⌝ }
 {
     (length + 3) / 4 * 4
 }
 
-// Where the AVP after the one at `at` stands.
-pub(crate) fn next_at(s: &[u8], at: usize) -> usize
-    requires { ⌜ at < 16777216 ⌝ }
-    ensures { λ r. ⌜ r ≡ nextAt (now (s .entry)) at ⌝ }
+// Where the AVP after this one stands.
+pub(crate) fn next_after(a: Avp) -> usize
+    ensures { λ r. ⌜ r ≡ nextAfter a ⌝ }
 {
-    at + padded_length(octets::number3(s, at + 5) as usize)
+    let start = a.start as usize;
+    start + padded_length(a.length as usize)
 }
 
 fn fault(place: u32, vendor: u32, code: u32) -> Frame

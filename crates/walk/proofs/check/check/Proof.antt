@@ -1,13 +1,10 @@
+-- `walk::check::check` meets its contract.
 use borrow.Author.Needs.{needs}
 use mathlib.Core.Path.{sym, _∙_}
 use native.Mathlib.Omega.{arith}
 use Rattle.walk.proofs.Framing.{holds-framed, holds-checked, broken-checked}
 use Rattle.walk.proofs.check.check.Statement.{statement}
 use Rattle.walk.proofs.check.check.Tie as tie
-use Rattle.walk.proofs.check.check.Reads as reads
-use Rattle.walk.proofs.check.check.Lts as lts
-use Rattle.walk.proofs.check.judged.Reads as judged-reads
-use Rattle.walk.proofs.frame.framed.Reads as framed-reads
 
 framed-requires : tie.Need-framed-requires
 framed-requires c κs = search needs

@@ -1,12 +1,8 @@
+-- `walk::check::judged` meets its contract.
 use borrow.Author.Needs.{needs}
 use mathlib.Core.Path.{sym, _∙_}
 use Rattle.walk.proofs.check.judged.Statement.{statement}
 use Rattle.walk.proofs.check.judged.Tie as tie
-use Rattle.walk.proofs.check.judged.Reads as reads
-use Rattle.walk.proofs.check.judged.Lts as lts
-use Rattle.dictionary.proofs.definition.Reads as definition-reads
-use Rattle.walk.proofs.check.content.Reads as content-reads
-use Rattle.walk.proofs.check.is_group.Reads as is-group-reads
 
 definition-requires : tie.Need-definition-requires
 definition-requires c κs = search needs

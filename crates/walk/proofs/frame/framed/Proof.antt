@@ -1,15 +1,10 @@
+-- `walk::frame::framed` meets its contract.
 use borrow.Author.Needs.{needs}
 use mathlib.Core.Path.{_∙_}
 use borrow.Author.Tests.{eq-eqb, ne-eqb}
 use Rattle.walk.proofs.Framing.{read-left, read-plain, read-vendor-left, read-vendor}
 use Rattle.walk.proofs.frame.framed.Statement.{statement}
 use Rattle.walk.proofs.frame.framed.Tie as tie
-use Rattle.walk.proofs.frame.framed.Reads as reads
-use Rattle.walk.proofs.frame.framed.Lts as lts
-use Rattle.octets.proofs.number3.Reads as number3-reads
-use Rattle.octets.proofs.number4.Reads as number4-reads
-use Rattle.walk.proofs.frame.fault.Reads as fault-reads
-use Rattle.walk.proofs.frame.framed_by.Reads as framed-by-reads
 
 cast-place : tie.Need-cast-place
 cast-place c = search needs

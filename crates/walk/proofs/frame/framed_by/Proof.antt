@@ -1,11 +1,8 @@
+-- `walk::frame::framed_by` meets its contract.
 use borrow.Author.Needs.{needs}
 use Rattle.rules.proofs.Walk.{framedBy-short, framedBy-long, framedBy-pass}
 use Rattle.walk.proofs.frame.framed_by.Statement.{statement}
 use Rattle.walk.proofs.frame.framed_by.Tie as tie
-use Rattle.walk.proofs.frame.framed_by.Reads as reads
-use Rattle.walk.proofs.frame.framed_by.Lts as lts
-use Rattle.walk.proofs.frame.fault.Reads as fault-reads
-use Rattle.walk.proofs.frame.padded_length.Reads as padded-length-reads
 
 fault-requires : tie.Need-fault-requires
 fault-requires c κs = search needs
