@@ -1,11 +1,11 @@
 -- What check 2 tells of an AVP that passes it, and check 2 by the fields that are read from the rest of the list.
 use mathlib.Core.Path.{_≡_, refl, sym, ap, _∙_}
-use mathlib.Core.Bool.{Bool, true, false}
+use mathlib.Core.Bool.{Bool, true, false, cond}
 use mathlib.Core.List.{List}
 use Prim.Native.Nat.{ℕ, _+_, _-_, _≤_, _<_}
 use native.Mathlib.Nat.{add-zero}
 use native.Mathlib.Omega.{arith}
-use borrow.Author.Tests.{ltb-true, ltb-false}
+use borrow.Author.Tests.{lt-ltb, le-ltb, ltb-true, ltb-false}
 use lib.Dec.{ltb}
 use lib.ListN.{length, getD, take, drop, length-drop}
 use lib.Seq.{length-take-le, getD-take, getD-drop}
@@ -14,8 +14,8 @@ use Rattle.rules.specs.declared.Verdict.{Verdict}
 use Rattle.rules.specs.declared.Outcome.{Outcome}
 use Rattle.rules.specs.declared.Outcome.the-variants.{Pass, Refused}
 use Rattle.rules.specs.declared.Checked.the-variants.{Fault}
-use Rattle.rules.specs.Octets.{numberAt}
-use Rattle.rules.specs.Avp.{codeAt, flagsAt, flagV, lengthAt, avpAt}
+use Rattle.rules.specs.Octets.{numberAt, padded}
+use Rattle.rules.specs.Avp.{codeAt, flagsAt, flagV, flagM, flagP, lengthAt, avpAt}
 use Rattle.rules.specs.Dictionary.{dictionary}
 use Rattle.rules.specs.Walk.{framedBy, framing, checkedAvp, checked}
 use Rattle.rules.proofs.Octets.{numberAt-part}
@@ -23,7 +23,7 @@ use Rattle.rules.proofs.Fields.{avpAt-plain, avpAt-vendor}
 use Rattle.rules.proofs.Walk.{by-cases, never, framedBy-fits, framing-left, framing-plain, framing-vendor-left, framing-vendor, checked-frame}
 use Rattle.walk.specs.declared.frame.Frame.{Frame}
 use Rattle.walk.specs.declared.frame.Frame.the-variants.{Holds, Broken}
-use Rattle.walk.specs.Promise.{InList, frameOf, broken, avpBy, frameBy, Framed}
+use Rattle.walk.specs.Promise.{InList, frameOf, broken, heldBy, isCut, Framed}
 
 module _ (s : List ℕ) (at end : ℕ) (order : at ≤ end) (pass : framing s at end ≡ Pass) where
   framed-plain : 8 ≤ end - at → flagV (flagsAt s at) ≡ false → Framed s at end
@@ -70,6 +70,48 @@ module _ (s : List ℕ) (at end depth : ℕ) where
   pub broken-checked : {v : Verdict} → Broken v ≡ frameOf (framing s at end) (avpAt s at depth) → checked dictionary s at end depth ≡ Fault v
   broken-checked {v} e = checked-frame dictionary s at end depth (broken-is (framing s at end) v (avpAt s at depth) e)
 
+-- ---- the length field
+
+pub cut-short : (left header size : ℕ) → size < header → true ≡ isCut left header size
+unfolding isCut
+cut-short left header size h = rw (lt-ltb size header h)
+
+pub cut-long : (left header size : ℕ) → header ≤ size → ltb left (padded size) ≡ isCut left header size
+unfolding isCut
+cut-long left header size h = rw (le-ltb size header h)
+
+pub uncut : (left header size : ℕ) → isCut left header size ≡ false → header ≤ size
+unfolding isCut
+uncut left header size e =
+    by-cases (ltb size header)
+    (λ h. let z : _≡_ {A = ℕ} 0 1 = cc (rw h at e) in absurd (omega arith))
+    (λ h. ltb-false size header h)
+
+abbrev avpBy : ℕ → ℕ → ℕ → ℕ → ℕ → ℕ → ℕ → Avp
+avpBy at depth header vendor code flags size = record {
+  depth = depth;
+  vendor = vendor;
+  code = code;
+  m = flagM flags;
+  p = flagP flags;
+  start = at + header;
+  length = size - header;
+}
+
+-- what check 2 hands back, by the fields of the header
+abbrev pub frameBy : ℕ → ℕ → ℕ → ℕ → ℕ → ℕ → ℕ → ℕ → Frame
+frameBy at left depth header vendor code flags size =
+    cond (isCut left header size) (broken at vendor code) (heldBy depth vendor code flags (at + header) (size - header))
+
+by-length : (at left depth header vendor code flags size : ℕ)
+    → frameBy at left depth header vendor code flags size
+    ≡ frameOf (framedBy at left header size vendor code) (avpBy at depth header vendor code flags size)
+unfolding isCut framedBy
+by-length at left depth header vendor code flags size =
+    by-cases (ltb size header)
+    (λ h. rw h)
+    (λ h. by-cases (ltb left (padded size)) (λ k. rw (h, k)) (λ k. rw (h, k)))
+
 -- ---- the fields of an AVP, read from the rest of its list
 
 module _ (s : List ℕ) (at end : ℕ) (place : InList s at end) where
@@ -112,6 +154,7 @@ module _ (s : List ℕ) (at end : ℕ) (place : InList s at end) where
           → frameBy at (length restOf) depth header vendor code (getD restOf 4 0) size ≡ frameAt
       read-by sizeIs header vendor f a =
           rw (codeIs, sizeIs, rest-left, rest-code left, rest-number 3 5 left, rest-flags left, f, a)
+          (by-length at (end - at) depth header vendor (codeAt s at) (flagsAt s at) (lengthAt s at))
 
       pub read-plain : {size : ℕ} → size ≡ numberAt 3 restOf 5 → flagV (getD restOf 4 0) ≡ false
           → frameBy at (length restOf) depth 8 0 code (getD restOf 4 0) size ≡ frameAt

@@ -3,7 +3,7 @@
 use mathlib.Core.Path.{_≡_}
 use Prim.Native.Nat.{ℕ, suc, _+_, _-_, _≤_, _<_}
 use mathlib.Core.List.{List, []}
-use mathlib.Core.Bool.{cond}
+use mathlib.Core.Bool.{Bool, cond, _||_}
 use lib.ListN.{length}
 use lib.Dec.{ltb}
 use Rattle.rules.specs.declared.Avp.{Avp}
@@ -14,7 +14,7 @@ use Rattle.rules.specs.Verdict.{verdict}
 use Rattle.rules.specs.Header.{longestCommand}
 use Rattle.rules.specs.Avp.{flagsAt, flagV, flagM, flagP, lengthAt, headerOf, nextAt}
 use Rattle.rules.specs.Dictionary.{dictionary}
-use Rattle.rules.specs.Walk.{framedBy, Walked, whole, stopped, avpsOf, walkAvp, walkList}
+use Rattle.rules.specs.Walk.{Walked, whole, stopped, avpsOf, walkAvp, walkList}
 use Rattle.rules.specs.Command.{walkOf}
 use Rattle.log.specs.Log.{avpsIn, written}
 use Rattle.walk.specs.declared.frame.Frame.{Frame}
@@ -38,22 +38,21 @@ frameOf (Refused v) a = Broken v
 abbrev pub broken : ℕ → ℕ → ℕ → Frame
 broken place vendor code = Broken (verdict 5014 place vendor code)
 
--- the AVP at a place by the fields of its header
-abbrev pub avpBy : ℕ → ℕ → ℕ → ℕ → ℕ → ℕ → ℕ → Avp
-avpBy at depth header vendor code flags size = record {
+-- the AVP by the fields of its header and its data
+abbrev pub heldBy : ℕ → ℕ → ℕ → ℕ → ℕ → ℕ → Frame
+heldBy depth vendor code flags start size = Holds (record {
   depth = depth;
   vendor = vendor;
   code = code;
   m = flagM flags;
   p = flagP flags;
-  start = at + header;
-  length = size - header;
-}
+  start = start;
+  length = size;
+})
 
--- check 2 by the fields of the header
-abbrev pub frameBy : ℕ → ℕ → ℕ → ℕ → ℕ → ℕ → ℕ → ℕ → Frame
-frameBy at left depth header vendor code flags size =
-    frameOf (framedBy at left header size vendor code) (avpBy at depth header vendor code flags size)
+-- check 2, the length field: below the header's octets, or with padding beyond what is left
+unfoldable pub isCut : ℕ → ℕ → ℕ → Bool
+isCut left header size = ltb size header || ltb left (padded size)
 
 -- an AVP that passed check 2
 pub record Framed (s : List ℕ) (at end : ℕ) : Type 0 where

@@ -1,11 +1,11 @@
 // 01, AVP, and Walk, check 2: the AVP at a place, if the octets left in its list hold it. Its header is read once, from the
 // rest of the list, so that one test of its length spares those of each number.
 ghost use mathlib.Core.Path.{_≡_};
-ghost use Prim.Native.Nat.{_+_, _<_};
+ghost use Prim.Native.Nat.{_<_};
 ghost use Rattle.rules.specs.Octets.{padded};
 ghost use Rattle.rules.specs.Avp.{avpAt};
 ghost use Rattle.rules.specs.Walk.{framing};
-ghost use Rattle.walk.specs.Promise.{InList, frameOf, broken, frameBy, nextAfter};
+ghost use Rattle.walk.specs.Promise.{InList, frameOf, broken, isCut, heldBy, nextAfter};
 use rules::Avp;
 use rules::Verdict;
 
@@ -42,26 +42,21 @@ fn fault(place: u32, vendor: u32, code: u32) -> Frame
     })
 }
 
-// The AVP at a place by the fields of its header, which has `header` octets.
-fn framed_by(
-    place: u32,
-    left: usize,
-    depth: u32,
-    header: u32,
-    vendor: u32,
-    code: u32,
-    flags: u8,
-    length: u32,
-) -> Frame
-    requires { ⌜ (place < 16777216) × (header < 16777216) × (length < 16777216) ⌝ }
-    ensures { λ r. ⌜ r ≡ frameBy place left depth header vendor code flags length ⌝ }
+// The length field is below the header's octets, or with padding beyond what is left.
+fn is_cut(left: usize, header: u32, length: u32) -> bool
+    requires { ⌜ length < 16777216 ⌝ }
+    ensures { λ r. ⌜ r ≡ isCut left header length ⌝ }
 {
     if length < header {
-        return fault(place, vendor, code);
+        return true;
     }
-    if left < padded_length(length as usize) {
-        return fault(place, vendor, code);
-    }
+    left < padded_length(length as usize)
+}
+
+// The AVP by the fields of its header and its data.
+fn held(depth: u32, vendor: u32, code: u32, flags: u8, start: u32, length: u32) -> Frame
+    ensures { λ r. ⌜ r ≡ heldBy depth vendor code flags start length ⌝ }
+{
     let m = flags / 64 % 2;
     let p = flags / 32 % 2;
     Frame::Holds(Avp {
@@ -70,8 +65,8 @@ fn framed_by(
         code,
         m: m == 1,
         p: p == 1,
-        start: place + header,
-        length: length - header,
+        start,
+        length,
     })
 }
 
@@ -91,11 +86,17 @@ pub(crate) fn framed(s: &[u8], at: usize, end: usize, depth: u32) -> Frame
     let length = octets::number3(rest, 5);
     let v = flags / 128 % 2;
     if v != 1 {
-        return framed_by(place, left, depth, 8, 0, code, flags, length);
+        if is_cut(left, 8, length) {
+            return fault(place, 0, code);
+        }
+        return held(depth, 0, code, flags, place + 8, length - 8);
     }
     if left < 12 {
         return fault(place, 0, code);
     }
     let vendor = octets::number4(rest, 8);
-    framed_by(place, left, depth, 12, vendor, code, flags, length)
+    if is_cut(left, 12, length) {
+        return fault(place, vendor, code);
+    }
+    held(depth, vendor, code, flags, place + 12, length - 12)
 }
