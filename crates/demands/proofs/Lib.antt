@@ -28,3 +28,6 @@ pub mod Passes
 pub mod Exchanges
 pub mod Canonical
 pub mod RoundTrip
+pub mod Refusals
+pub mod ListRefusals
+pub mod Numbering
