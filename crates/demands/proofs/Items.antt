@@ -1,8 +1,8 @@
--- AVPs in walk order as their octets stand: the cell that belongs to the meaning, and the padding. Walk order is the order
--- of the octets, and a read group is its header, followed by its members.
+-- AVPs in walk order as their octets stand: the cell that belongs to the meaning, and the padding. Walk order is the
+-- order of the octets, and a read group is its header, followed by its members.
 use mathlib.Core.Path.{_≡_}
 use Prim.Native.Nat.{ℕ, _+_, _-_, _^_, _≤_, _<_}
-use mathlib.Core.Bool.{Bool, true, cond}
+use mathlib.Core.Bool.{true, cond}
 use mathlib.Core.List.{List, [], _∷_, _++_, map}
 use lib.ListN.{length}
 use lib.Dec.{leb}

@@ -31,3 +31,5 @@ pub mod RoundTrip
 pub mod Refusals
 pub mod ListRefusals
 pub mod Numbering
+pub mod Answers
+pub mod Demands

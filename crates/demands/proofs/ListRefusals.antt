@@ -40,11 +40,14 @@ unfolding isNumbered
 admission-numbered others counts first a (ByRow row mark) = mark-numbered mark (ltb 0 (getD counts row 0)) first a
 admission-numbered others counts first a NoRow = simp (either, both)
 
-member-numbered : (g : Grammar) (counts : List ℕ) (first : Bool) (a : Avp) → isNumbered (memberOutcome g counts first a) ≡ true
+member-numbered : (g : Grammar) (counts : List ℕ) (first : Bool) (a : Avp)
+    → isNumbered (memberOutcome g counts first a) ≡ true
 unfolding memberOutcome
-member-numbered g counts first a = admission-numbered (admitsOthers g) counts first a (admission g (a .vendor) (a .code))
+member-numbered g counts first a =
+    admission-numbered (admitsOthers g) counts first a (admission g (a .vendor) (a .code))
 
-missing-numbered : (i : ℕ) (rows : List Row) (counts : List ℕ) (end : ℕ) → isNumbered (missingFrom i rows counts end) ≡ true
+missing-numbered : (i : ℕ) (rows : List Row) (counts : List ℕ) (end : ℕ)
+    → isNumbered (missingFrom i rows counts end) ≡ true
 unfolding missingFrom isNumbered
 missing-numbered i [] counts end = refl
 missing-numbered i (r ∷ rs) counts end = let ih = missing-numbered (i + 1) rs counts end in simp (either, both, ih)
@@ -69,7 +72,8 @@ groups-numbered dict (a ∷ xs) =
     in-turn (groupOutcome (membersOf (defined dict a)) a xs) _ (group-numbered (membersOf (defined dict a)) a xs)
     (groups-numbered dict xs)
 
-pub rows-numbered : (dict : List Entry) (g : Grammar) (end : ℕ) (xs : List Avp) → isNumbered (rowsOutcome dict g end xs) ≡ true
+pub rows-numbered : (dict : List Entry) (g : Grammar) (end : ℕ) (xs : List Avp)
+    → isNumbered (rowsOutcome dict g end xs) ≡ true
 unfolding rowsOutcome
 rows-numbered dict g end xs =
     in-turn _ _ (members-numbered g end noneMet true (membersAt 1 xs)) (groups-numbered dict xs)
@@ -172,7 +176,8 @@ unfolding windowOutcome
 window-numbered xs s i depth =
     window-by xs s (endOf (avpIn xs i)) (member xs i depth 10415 4206) (member xs i depth 10415 4205)
 
-each-window-numbered : (xs : List Avp) (s : List ℕ) (i : ℕ) (rest : List Avp) → isNumbered (eachWindow xs s i rest) ≡ true
+each-window-numbered : (xs : List Avp) (s : List ℕ) (i : ℕ) (rest : List Avp)
+    → isNumbered (eachWindow xs s i rest) ≡ true
 unfolding eachWindow isNumbered
 each-window-numbered xs s i [] = refl
 each-window-numbered xs s i (a ∷ rest) =

@@ -1,23 +1,23 @@
 -- The returned number tells acceptance: no refusal has the number 0, so it is 0 exactly when the command, or the draft,
 -- is accepted.
-use mathlib.Core.Path.{_≡_, refl, sym, ap, _∙_}
-use mathlib.Core.Bool.{Bool, true, not}
+use mathlib.Core.Path.{_≡_, refl, ap}
+use mathlib.Core.Bool.{true, not}
 use mathlib.Core.List.{List}
 use mathlib.Core.Logic.{_↔_}
 use Prim.Native.Nat.{ℕ}
 use native.Mathlib.Omega.{arith}
 use borrow.Author.Tests.{eq-eqb}
-use lib.Dec.{ltb, eqb}
+use lib.Dec.{eqb}
 use lib.ListN.{length}
 use Rattle.rules.specs.declared.Verdict.{Verdict}
 use Rattle.rules.specs.declared.Outcome.{Outcome}
 use Rattle.rules.specs.declared.Outcome.the-variants.{Pass, Refused}
 use Rattle.rules.specs.Verdict.{verdictOf}
-use Rattle.rules.specs.Header.{commandFlags, isRequest, longestCommand, headerOutcome}
+use Rattle.rules.specs.Header.{commandFlags, isRequest, headerOutcome}
 use Rattle.rules.specs.Dictionary.{dictionary}
 use Rattle.rules.specs.Walk.{Walked, whole, stopped}
 use Rattle.rules.specs.Command.{commandGrammar, walkOf, listsOutcome, walkedOutcome, commandOutcome, commandVerdict}
-use Rattle.rules.specs.Writer.{Draft, isWellFormed, draftOctets, draftOutcome, writing}
+use Rattle.rules.specs.Writer.{Draft, draftOutcome, writing}
 use Rattle.demands.proofs.Refusals.{isNumbered, either, both, in-turn, header-numbered, stopOf, walk-numbered}
 use Rattle.demands.proofs.ListRefusals.{rows-numbered, exchange-numbered}
 
@@ -50,7 +50,8 @@ refusal-number o v h e z =
 
 number-tells : (o : Outcome) → isNumbered o ≡ true → (verdictOf o .number ≡ 0) ↔ (o ≡ Pass)
 number-tells Pass h = (λ z. refl, λ e. refl)
-number-tells (Refused v) h = (λ z. absurd (refusal-number (Refused v) v h refl z), λ e. ap (λ (o : Outcome). verdictOf o .number) e)
+number-tells (Refused v) h =
+    (λ z. absurd (refusal-number (Refused v) v h refl z), λ e. ap (λ (o : Outcome). verdictOf o .number) e)
 
 -- no refusal has the number 0
 pub command-refusal : (s : List ℕ) (v : Verdict) → commandOutcome s ≡ Refused v → v .number ≡ 0 → ⊥
@@ -64,6 +65,7 @@ pub command-number : (s : List ℕ) → (commandVerdict s .number ≡ 0) ↔ (co
 unfolding commandVerdict
 command-number s = number-tells (commandOutcome s) (command-numbered s)
 
-pub draft-number : (d : Draft) (out : List ℕ) → (writing d out .verdict .number ≡ 0) ↔ (draftOutcome d (length out) ≡ Pass)
+pub draft-number : (d : Draft) (out : List ℕ)
+    → (writing d out .verdict .number ≡ 0) ↔ (draftOutcome d (length out) ≡ Pass)
 unfolding writing
 draft-number d out = number-tells (draftOutcome d (length out)) (draft-numbered d (length out))

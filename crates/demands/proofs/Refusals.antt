@@ -96,7 +96,8 @@ unfolding isNumbered
 kind-numbered true a = refl
 kind-numbered false a = refl
 
-checked-numbered : (dict : List Entry) (s : List ℕ) (at end depth : ℕ) → isNumbered (faultOf (checked dict s at end depth)) ≡ true
+checked-numbered : (dict : List Entry) (s : List ℕ) (at end depth : ℕ)
+    → isNumbered (faultOf (checked dict s at end depth)) ≡ true
 unfolding checked
 checked-numbered dict s at end depth =
     let a = avpAt s at depth in
