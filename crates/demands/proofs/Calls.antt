@@ -17,7 +17,7 @@ use Rattle.rules.specs.Command.{commandOutcome}
 use Rattle.rules.specs.Meaning.{Meaning, meaningOf}
 use Rattle.rules.specs.Writer.{commandOctets, Draft, draftMeaning, isWellFormed, draftOctets, draftOutcome, octetsBy, octetsWritten, writing, outputAfter}
 use Rattle.rules.specs.Calls.{front, rest, allWritten, outputAfterAll, acceptedBy, allAccepted}
-use Rattle.rules.proofs.Walk.{by-cases, never}
+use Rattle.rules.proofs.Passed.{not-refused}
 use Rattle.demands.proofs.Numbers.{number-front}
 use Rattle.demands.proofs.Headers.{command-long}
 use Rattle.demands.proofs.Writing.{head-written}
@@ -45,10 +45,15 @@ pub record Accepted (d : Draft) (room : ℕ) : Type 0 where
 pub accepted : (d : Draft) (room : ℕ) → draftOutcome d room ≡ Pass → Accepted d room
 unfolding draftOutcome
 accepted d room e =
-    by-cases (not (isWellFormed d)) (λ a. never (rw a at e))
-    (λ a. by-cases (ltb longestCommand (length (draftOctets d))) (λ b. never (rw (a, b) at e))
-    (λ b. by-cases (ltb room (length (draftOctets d))) (λ c. never (rw (a, b, c) at e))
-    (λ c. record { form = not-false _ a; long = ltb-false _ _ b; fits = ltb-false _ _ c; pass = rw (a, b, c) at e })))
+    let form = not-refused (not (isWellFormed d)) _ _ e in
+    let long = not-refused (ltb longestCommand (length (draftOctets d))) _ _ (form .1) in
+    let fits = not-refused (ltb room (length (draftOctets d))) _ _ (long .1) in
+    record {
+      form = not-false _ (form .0);
+      long = ltb-false _ _ (long .0);
+      fits = ltb-false _ _ (fits .0);
+      pass = fits .1;
+    }
 
 -- what is written fits the room
 written-fits : (d : Draft) (room : ℕ) (o : Outcome) → draftOutcome d room ≡ o

@@ -26,6 +26,11 @@ use Rattle.demands.proofs.Judged.{by-outcome, contentsOf, judged-many, 
 pub never-whole : {C : Type 0} {xs ys : List Avp} {v : Verdict} → stopped xs v ≡ whole ys → C
 never-whole e = let z : _≡_ {A = ℕ} 0 1 = cc in absurd (omega arith)
 
+pub after-whole : (xs zs : List Avp) (w : Walked) → after xs w ≡ whole zs
+    → (ys : List Avp) × (w ≡ whole ys) × (zs ≡ xs ++ ys)
+after-whole xs zs (whole ys) e = (ys, refl, cc)
+after-whole xs zs (stopped ys v) e = never-whole e
+
 module _ (dict : List Entry) (s : List ℕ) where
   -- the data of an AVP that is no read group are its octets; a read group has none
   cell-of : (x : Item) (tail : List ℕ) (at : ℕ) → Fit dict x
@@ -52,11 +57,6 @@ module _ (dict : List Entry) (s : List ℕ) where
   pub record Within (count at : ℕ) (xs : List Item) (avps : List Avp) : Type 0 where
     pub avps-are : avps ≡ avpsAt at xs
     pub few : count + length xs ≤ mostAvps
-
-  after-whole : (xs avps : List Avp) (w : Walked) → after xs w ≡ whole avps
-      → (ys : List Avp) × (w ≡ whole ys) × (avps ≡ xs ++ ys)
-  after-whole xs avps (whole ys) e = (ys, refl, cc)
-  after-whole xs avps (stopped ys v) e = let z : _≡_ {A = ℕ} 0 1 = cc in absurd (omega arith)
 
   pub within : (xs : List Item) (count at : ℕ) (avps : List Avp) → count ≤ mostAvps
       → judged dict s count at xs ≡ whole avps

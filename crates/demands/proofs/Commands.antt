@@ -1,78 +1,23 @@
 -- An accepted command: its header's fields, and the items that its list is made of.
-use mathlib.Core.Path.{_≡_, refl, sym, ap, _∙_}
-use mathlib.Core.Bool.{not, _||_}
+use mathlib.Core.Path.{_≡_, sym, ap, _∙_}
 use mathlib.Core.List.{List, [], _++_, map, append-nil}
-use Prim.Native.Nat.{ℕ, _+_, _%_, _≤_}
+use Prim.Native.Nat.{ℕ, _+_, _≤_}
 use native.Mathlib.Omega.{arith}
-use borrow.Author.Tests.{ltb-false, eqb-true, not-false}
-use lib.Dec.{ltb, eqb}
 use lib.ListN.{length, drop}
 use lib.Seq.{drop-length}
-use Rattle.rules.specs.declared.Avp.{Avp}
 use Rattle.rules.specs.declared.Outcome.the-variants.{Pass}
-use Rattle.rules.specs.Verdict.{orElse}
-use Rattle.rules.specs.Header.{headerSize, version, lengthField, commandFlags, commandCode, application, applicationNt, codeBackgroundDataTransfer, longestCommand, lengthOutcome, applicationOutcome, flagsOutcome, headerOutcome}
 use Rattle.rules.specs.Dictionary.{dictionary}
-use Rattle.rules.specs.Walk.{Walked, whole, stopped, avpsOf}
-use Rattle.rules.specs.Command.{walkOf, listsOutcome, walkedOutcome, commandOutcome}
+use Rattle.rules.specs.Walk.{whole, avpsOf}
+use Rattle.rules.specs.Command.{walkOf, listsOutcome, commandOutcome}
 use Rattle.rules.specs.Meaning.{cellOf}
-use Rattle.rules.proofs.Outcomes.{both-pass}
-use Rattle.rules.proofs.Walk.{never}
+use Rattle.rules.proofs.Header.{Headed, headed}
+use Rattle.rules.proofs.Commands.{passed-command}
 use Rattle.demands.proofs.Items.{Item, cellIn, octetsOf, avpsAt, Listed, judged}
 use Rattle.demands.proofs.Sequences.{length-avps}
 use Rattle.demands.proofs.Cells.{cells-of, within}
 use Rattle.demands.proofs.Read.{full}
 use Rattle.demands.proofs.Digits.{Octets}
-use Rattle.demands.proofs.Passed.{neither, not-refused}
 use Rattle.demands.proofs.Soundness.{sound}
-
--- ---- the header
-
-pub record Headed (c : List ℕ) : Type 0 where
-  pub enough : 20 ≤ length c
-  pub version-is : version c ≡ 1
-  pub field-is : lengthField c ≡ length c
-  pub four : lengthField c % 4 ≡ 0
-  pub within : length c ≤ 16384
-  pub application-is : application c ≡ applicationNt
-  pub code-is : commandCode c ≡ codeBackgroundDataTransfer
-  pub flags-pass : flagsOutcome (commandFlags c) ≡ Pass
-
-headed : (c : List ℕ) → headerOutcome c ≡ Pass → Headed c
-unfolding headerOutcome lengthOutcome applicationOutcome
-headed c e =
-    let a = both-pass (lengthOutcome c) (orElse (applicationOutcome c) (flagsOutcome (commandFlags c))) e in
-    let b = both-pass (applicationOutcome c) (flagsOutcome (commandFlags c)) (a .1) in
-    let enough = not-refused (ltb (length c) headerSize) _ _ (a .0) in
-    let one = not-refused (not (eqb (version c) 1)) _ _ (enough .1) in
-    let size = lengthField c in
-    let few = ltb size headerSize in
-    let uneven = not (eqb (size % 4) 0) in
-    let unequal = not (eqb size (length c)) in
-    let field = not-refused (few || uneven || unequal) _ _ (one .1) in
-    let long = not-refused (ltb longestCommand size) _ _ (field .1) in
-    let nt = not-refused (not (eqb (application c) applicationNt)) _ _ (b .0) in
-    let code = not-refused (not (eqb (commandCode c) codeBackgroundDataTransfer)) _ _ (nt .1) in
-    let whole = neither (few || uneven) unequal (field .0) in
-    let four = neither few uneven (whole .0) in
-    let same = eqb-true size (length c) (not-false _ (whole .1)) in
-    record {
-      enough = ltb-false _ _ (enough .0);
-      version-is = eqb-true _ _ (not-false _ (one .0));
-      field-is = same;
-      four = eqb-true _ _ (not-false _ (four .1));
-      within = omega (arith, ltb-false longestCommand size (long .0));
-      application-is = eqb-true _ _ (not-false _ (nt .0));
-      code-is = eqb-true _ _ (not-false _ (code .0));
-      flags-pass = b .1;
-    }
-
--- ---- the walk
-
-walked : (c : List ℕ) (w : Walked) → walkedOutcome c w ≡ Pass
-    → (xs : List Avp) × (w ≡ whole xs) × (listsOutcome c xs ≡ Pass)
-walked c (whole xs) e = (xs, refl, e)
-walked c (stopped xs v) e = never e
 
 pub record Accepted (c : List ℕ) : Type 0 where
   pub header : Headed c
@@ -86,21 +31,20 @@ pub record Accepted (c : List ℕ) : Type 0 where
   pub lists : listsOutcome c (avpsAt 20 items) ≡ Pass
 
 pub accepted : (c : List ℕ) → Octets c → commandOutcome c ≡ Pass → Accepted c
-unfolding commandOutcome walkOf
+unfolding walkOf
 accepted c oct e =
-    let b = both-pass (headerOutcome c) (walkedOutcome c (walkOf c)) e in
-    let h = headed c (b .0) in
-    let w = walked c (walkOf c) (b .1) in
+    let w = passed-command c e in
+    let h = headed c (w .header) in
     let enough = h .enough in
     let f =
-    sound dictionary c (length c) oct 20 (length c) 1 0 (w .0) (omega arith) (omega arith) enough (omega arith)
-    (omega arith) (w .1) in
+    sound dictionary c (length c) oct 20 (length c) 1 0 (w .avps) (omega arith) (omega arith) enough (omega arith)
+    (omega arith) (w .walk) in
     let tail : drop 20 c ≡ octetsOf (f .items) = f .octets ∙ rw (drop-length c, append-nil) in
     let long = f .long in
     let rest : drop 20 c ≡ octetsOf (f .items) ++ [] = tail ∙ sym (append-nil (octetsOf (f .items))) in
     let j =
     sym (full (length c) dictionary (f .items) c [] 20 (length c) 1 0 (f .listed) rest long (omega arith))
-    ∙ w .1 ∙ ap whole (f .avps) in
+    ∙ w .walk ∙ ap whole (f .avps) in
     record {
       header = h;
       items = f .items;
@@ -109,8 +53,8 @@ accepted c oct e =
       long = long;
       judged-is = j;
       few = omega (arith, within dictionary c (f .items) 0 20 (avpsAt 20 (f .items)) (omega arith) j .few);
-      walk-is = w .1 ∙ ap whole (f .avps);
-      lists = ap (listsOutcome c) (sym (f .avps)) ∙ w .2;
+      walk-is = w .walk ∙ ap whole (f .avps);
+      lists = ap (listsOutcome c) (sym (f .avps)) ∙ w .lists;
     }
 
 -- ---- its meaning

@@ -18,12 +18,12 @@ use Rattle.rules.specs.Dictionary.{dictionary, find, isGroup}
 use Rattle.rules.specs.Walk.{contents, wrongWidth, wrongValue}
 use Rattle.rules.specs.Meaning.{Cell}
 use Rattle.rules.specs.Writer.{hasVendor, avpHeader}
+use Rattle.rules.proofs.Tests.{and-true}
 use Rattle.rules.proofs.Fields.{header-least}
 use Rattle.rules.proofs.Walk.{by-cases, contents-pass}
+use Rattle.rules.proofs.Passed.{Clear, passed}
 use Rattle.demands.proofs.Items.{Item, avpOf, Fit}
-use Rattle.demands.proofs.Trees.{and-true}
 use Rattle.demands.proofs.Judged.{contentsOf}
-use Rattle.demands.proofs.Passed.{Clear, passed}
 use Rattle.demands.proofs.Depths.{flat}
 use Rattle.demands.proofs.Paddings.{front}
 use Rattle.demands.proofs.Places.{number-same}

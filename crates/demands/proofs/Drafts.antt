@@ -1,6 +1,6 @@
 -- A draft that is well formed and not too long has a meaning that can be written; if the reader accepts its octets,
 -- they have the draft's meaning.
-use mathlib.Core.Path.{_≡_, refl, sym, ap, _∙_}
+use mathlib.Core.Path.{_≡_, sym, ap, _∙_}
 use mathlib.Core.Bool.{true, false, cond, _&&_}
 use mathlib.Core.List.{List, [], _∷_, map}
 use Prim.Native.Nat.{ℕ, _+_, _^_, _≤_, _<_, min}
@@ -12,19 +12,20 @@ use lib.Seq.{length-take-le}
 use Rattle.rules.specs.declared.Avp.{Avp}
 use Rattle.rules.specs.declared.Record.{Record}
 use Rattle.rules.specs.declared.Outcome.the-variants.{Pass}
-use Rattle.rules.specs.Header.{headerOutcome, longestCommand}
+use Rattle.rules.specs.Header.{longestCommand}
 use Rattle.rules.specs.Avp.{headerOf, endOf}
 use Rattle.rules.specs.Dictionary.{Entry, dictionary}
-use Rattle.rules.specs.Walk.{mostAvps, Walked, whole, stopped}
-use Rattle.rules.specs.Command.{walkOf, walkedOutcome, commandOutcome}
+use Rattle.rules.specs.Walk.{mostAvps}
+use Rattle.rules.specs.Command.{commandOutcome}
 use Rattle.rules.specs.Record.{recorded}
 use Rattle.rules.specs.Meaning.{cellOf, meaningOf}
 use Rattle.rules.specs.Writer.{hasVendor, listOctets, Draft, cellsOf, draftMeaning, hasRoom, allBlank, isPlaced, allPlaced, isTree, hasSizes, identifiersFit, isWellFormed, draftOctets}
-use Rattle.rules.proofs.Outcomes.{both-pass}
-use Rattle.rules.proofs.Walk.{by-cases, never}
+use Rattle.rules.proofs.Tests.{and-true}
+use Rattle.rules.proofs.Walk.{by-cases}
+use Rattle.rules.proofs.Commands.{passed-command}
 use Rattle.demands.proofs.Items.{octetsOf, All, Fit, Listed}
 use Rattle.demands.proofs.Headers.{command-long}
-use Rattle.demands.proofs.Trees.{and-true, isGroupCell, tree-over, sized, sizeOf, under-most}
+use Rattle.demands.proofs.Trees.{isGroupCell, tree-over, sized, sizeOf, under-most}
 use Rattle.demands.proofs.Sequences.{length-cons}
 use Rattle.demands.proofs.Lists.{tights, size-octets}
 use Rattle.demands.proofs.Writing.{zeroed, cells-zeroed, list-octets, Writable, meaning-written}
@@ -170,19 +171,10 @@ module _ (d : Draft) (form : isWellFormed d ≡ true) (long : length (draftOctet
         long = long;
       }
 
--- an accepted command has a whole walk
-pub whole-walk : (s : List ℕ) → commandOutcome s ≡ Pass → (xs : List Avp) × (walkOf s ≡ whole xs)
-unfolding commandOutcome
-whole-walk s e = walked (walkOf s) (both-pass (headerOutcome s) (walkedOutcome s (walkOf s)) e .1)
-  where
-    walked : (w : Walked) → walkedOutcome s w ≡ Pass → (xs : List Avp) × (w ≡ whole xs)
-    walked (whole xs) p = (xs, refl)
-    walked (stopped xs v) p = never p
-
 -- what is written is read: the octets of an accepted draft have its meaning
 pub draft-meaning : (d : Draft) → isWellFormed d ≡ true → length (draftOctets d) ≤ longestCommand
     → commandOutcome (draftOctets d) ≡ Pass
     → meaningOf (draftOctets d) ≡ draftMeaning d
 draft-meaning d form long e =
-    let w = whole-walk (draftOctets d) e in
-    meaning-written (draftMeaning d) (draft-writable d form long) (w .0) (w .1)
+    let w = passed-command (draftOctets d) e in
+    meaning-written (draftMeaning d) (draft-writable d form long) (w .avps) (w .walk)

@@ -16,9 +16,9 @@ use Rattle.rules.specs.Octets.{numberAt}
 use Rattle.rules.specs.Avp.{named, endOf}
 use Rattle.rules.specs.Search.{blank, avpIn, isAt, firstFrom, search, member}
 use Rattle.rules.specs.Exchange.{byRequestType, requestBy, requestOutcome, windowBy, windowOutcome, eachWindow, exchangeOutcome}
+use Rattle.rules.proofs.Tests.{and-true}
 use Rattle.rules.proofs.Searches.{first-above, first-here, first-later, first-none}
 use Rattle.rules.proofs.Walk.{by-cases}
-use Rattle.demands.proofs.Trees.{and-true}
 
 -- ---- a search finds an AVP of its name
 

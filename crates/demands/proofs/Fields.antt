@@ -15,7 +15,7 @@ use Rattle.rules.specs.Dictionary.{Entry}
 use Rattle.rules.specs.Walk.{framing}
 use Rattle.rules.specs.Meaning.{Cell}
 use Rattle.rules.specs.Writer.{octets, hasVendor, avpFlags, vendorOctets, avpHeader}
-use Rattle.rules.proofs.Fields.{header-least}
+use Rattle.rules.proofs.Fields.{header-least, padded-header}
 use Rattle.rules.proofs.Walk.{by-cases, framedBy-pass}
 use Rattle.demands.proofs.Items.{Item, avpOf, Fit}
 use Rattle.demands.proofs.Flags.{flagsBy, read-flags}
@@ -80,12 +80,6 @@ avp-found s at x f =
     let c = x .cell in
     let l : lengthAt s at - headerOf (flagV (flagsAt s at)) ≡ c .length = rw (f .length-is, f .v-is) (omega arith) in
     rw (l, f .vendor-is, f .code-is, f .m-is, f .p-is, f .v-is)
-
--- a header has a multiple of four octets
-padded-header : (v : Bool) (n : ℕ) → padded (headerOf v + n) ≡ headerOf v + padded n
-unfolding padded
-padded-header true n = omega arith
-padded-header false n = omega arith
 
 -- the next AVP stands behind header, data and padding
 pub next-found : (s : List ℕ) (at : ℕ) (c : Cell) → HeaderAt s at c

@@ -14,7 +14,6 @@ pub mod Drafts
 pub mod Writing
 pub mod Calls
 pub mod Digits
-pub mod Passed
 pub mod OneItem
 pub mod Soundness
 pub mod Commands

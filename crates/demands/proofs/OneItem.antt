@@ -1,6 +1,6 @@
 -- One AVP that passed its checks: its octets are the header that the writer gives to its cell, data and padding.
 use mathlib.Core.Path.{_≡_, refl, sym, ap, _∙_}
-use mathlib.Core.Bool.{Bool, true, false, cond, _&&_}
+use mathlib.Core.Bool.{true, false, cond, _&&_}
 use mathlib.Core.List.{List, [], _∷_, _++_, append-assoc}
 use Prim.Native.Nat.{ℕ, _+_, _-_, _*_, _/_, _%_, _^_, _≤_, _<_}
 use native.Mathlib.Nat.{div-div-eq-div-mul}
@@ -17,11 +17,11 @@ use Rattle.rules.specs.Walk.{framing, contents}
 use Rattle.rules.specs.Meaning.{Cell, isReadGroup, cellOf}
 use Rattle.rules.specs.Writer.{octets, hasVendor, avpFlags, vendorOctets, avpHeader}
 use Rattle.rules.proofs.Octets.{padded-least}
-use Rattle.rules.proofs.Fields.{header-least}
+use Rattle.rules.proofs.Fields.{header-least, padded-header}
 use Rattle.rules.proofs.Walk.{by-cases}
+use Rattle.rules.proofs.Passed.{framed, passed, right-flags}
 use Rattle.demands.proofs.Digits.{Octets, cut, number-first, octet-first, numberAt-below}
 use Rattle.demands.proofs.Items.{Item, step, avpOf, Fit}
-use Rattle.demands.proofs.Passed.{framed, passed, right-flags}
 
 -- ---- the flags octet
 
@@ -43,12 +43,6 @@ flags-sum flags small low =
     rw (flag-value 128 flags, flag-value 64 flags, flag-value 32 flags, a, b) (omega arith)
 
 -- ---- the cell at a place, and its header
-
--- a header has a multiple of four octets
-pub padded-header : (v : Bool) (n : ℕ) → padded (headerOf v + n) ≡ headerOf v + padded n
-unfolding padded
-padded-header true n = omega arith
-padded-header false n = omega arith
 
 -- the octets of the header at a place
 abbrev pub headerAt : List ℕ → ℕ → ℕ

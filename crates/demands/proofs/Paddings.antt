@@ -14,10 +14,10 @@ use Rattle.rules.specs.Meaning.{isPadding}
 use Rattle.rules.specs.Writer.{hasVendor}
 use Rattle.rules.proofs.Octets.{padded-least}
 use Rattle.rules.proofs.Walk.{by-cases}
+use Rattle.rules.proofs.Fields.{padded-header}
 use Rattle.demands.proofs.Items.{Item, step, avpOf, avpsAt, Fit}
 use Rattle.demands.proofs.Trees.{isGroupCell}
 use Rattle.demands.proofs.Lists.{Tight}
-use Rattle.demands.proofs.OneItem.{padded-header}
 
 -- the first octet of an item's AVP is where the item stands
 place-is : (at : ℕ) (x : Item) → placeOf (avpOf at x) ≡ at

@@ -21,8 +21,7 @@ use Rattle.demands.proofs.Items.{Item, cellIn, octetsOf, step, avpOf, a
 use Rattle.demands.proofs.Sequences.{octets-cons, past-item, avps-nil, avps-cons}
 use Rattle.demands.proofs.Lists.{not-both}
 use Rattle.demands.proofs.Judged.{by-outcome, contentsOf, judged-many, judged-refused, judged-pass, judged-nil}
-use Rattle.demands.proofs.Cells.{never-whole}
-use Rattle.demands.proofs.Soundness.{after-whole}
+use Rattle.demands.proofs.Cells.{never-whole, after-whole}
 use Rattle.demands.proofs.Depths.{flat}
 use Rattle.demands.proofs.Alike.{step-same}
 use Rattle.demands.proofs.Contents.{Four, four-same, contents-again}

@@ -18,21 +18,16 @@ use Rattle.rules.specs.Meaning.{isReadGroup}
 use Rattle.rules.specs.Writer.{avpHeader}
 use Rattle.rules.proofs.Octets.{padded-least}
 use Rattle.rules.proofs.Fields.{header-least, avpAt-start, avpAt-end, avpAt-depth}
-use Rattle.rules.proofs.Walk.{by-cases, checked-frame, checked-content, checked-group, checked-plain, group-is, avp-many, avp-fault, avp-plain, avp-group, list-end, list-more}
+use Rattle.rules.proofs.Walk.{by-cases, checked-frame, checked-content, checked-group, checked-plain, avp-many, avp-fault, avp-plain, avp-group, list-end, list-more}
+use Rattle.rules.proofs.Passed.{framed, group-is}
 use Rattle.demands.proofs.Items.{Item, octetsOf, step, avpsAt, Listed}
 use Rattle.demands.proofs.Sequences.{octets-nil, octets-cons, octets-append, length-cons, length-both, avps-nil, avps-cons, avps-append}
-use Rattle.demands.proofs.Cells.{never-whole}
+use Rattle.demands.proofs.Cells.{never-whole, after-whole}
 use Rattle.demands.proofs.Lists.{listed-nil, words, list-plain, list-group}
 use Rattle.demands.proofs.Digits.{Octets}
-use Rattle.demands.proofs.Passed.{framed}
 use Rattle.demands.proofs.OneItem.{headerAt, paddingAt, groupAt, plainAt, Passing, header-octets, avp-is, group-fit, group-none, group-step, group-next, plain-fit, plain-step, plain-octets}
 
 -- ---- walks that end whole
-
-pub after-whole : (xs zs : List Avp) (w : Walked) → after xs w ≡ whole zs
-    → (ys : List Avp) × (w ≡ whole ys) × (zs ≡ xs ++ ys)
-after-whole xs zs (whole ys) e = (ys, refl, cc)
-after-whole xs zs (stopped ys v) e = never-whole e
 
 both-whole : (zs : List Avp) (w : Walked) (f : ℕ → Walked) → andThen w f ≡ whole zs
     → (xs : List Avp) × (w ≡ whole xs) × (after xs (f (length xs)) ≡ whole zs)

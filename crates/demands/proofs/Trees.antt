@@ -14,13 +14,9 @@ use Rattle.rules.specs.Dictionary.{Entry}
 use Rattle.rules.specs.Walk.{deepest}
 use Rattle.rules.specs.Meaning.{Cell, isReadGroup}
 use Rattle.rules.specs.Writer.{hasVendor, nextDepth, isTree, ownSize, sizeUnder, hasSizes}
+use Rattle.rules.proofs.Tests.{and-true}
 use Rattle.rules.proofs.Walk.{by-cases}
 use Rattle.demands.proofs.Items.{Over}
-
--- both tests hold
-pub and-true : (a b : Bool) → a && b ≡ true → (a ≡ true) × (b ≡ true)
-and-true true b e = (refl, e)
-and-true false b e = let z : _≡_ {A = ℕ} 0 1 = cc in absurd (omega arith)
 
 -- each cell is deeper than a depth
 abbrev pub Deep : ℕ → List Cell → Type 0

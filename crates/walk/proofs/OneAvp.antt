@@ -14,7 +14,8 @@ use Rattle.rules.specs.Dictionary.{dictionary}
 use Rattle.rules.specs.Walk.{framing, checked, Walked, whole, stopped, avpsOf, after, walkAvp, walkList}
 use Rattle.rules.proofs.Octets.{padded-least}
 use Rattle.rules.proofs.Fields.{avpAt-start, avpAt-end, avpAt-depth, header-least}
-use Rattle.rules.proofs.Walk.{plain-is, group-is, avps-after, avp-plain, avp-group}
+use Rattle.rules.proofs.Walk.{avps-after, avp-plain, avp-group}
+use Rattle.rules.proofs.Passed.{plain-is, group-is}
 use Rattle.log.specs.Log.{putAvp, written}
 use Rattle.walk.specs.declared.Walk.{Walk}
 use Rattle.walk.specs.declared.Walk.the-variants.{Whole, Stopped}
@@ -34,7 +35,7 @@ pub record Placed (s : List ℕ) (at end : ℕ) (a : Avp) : Type 0 where
 
 placed : (s : List ℕ) (at end depth : ℕ) → at ≤ end → framing s at end ≡ Pass → Placed s at end (avpAt s at depth)
 placed s at end depth order pass =
-    let f = frame-framed s at end order pass in
+    let f = frame-framed s at end pass in
     let least = padded-least (lengthAt s at) in
     let eight = header-least (flagV (flagsAt s at)) in
     let begin = avpAt-start s at depth in

@@ -28,7 +28,7 @@ avp-at-requires c κs =
     let f = c .before .before in
     let a = f .before .before .args in
     let p = f .before .before .pre in
-    (p, frame-framed (a .s .now) (a .at) (a .end) (p .order) (sym (f .frame .ensures) ∙ c .enum-told .given .1))
+    (p, frame-framed (a .s .now) (a .at) (a .end) (sym (f .frame .ensures) ∙ c .enum-told .given .1))
 
 definition-requires : tie.Need-definition-requires
 definition-requires c κs = search needs
@@ -38,7 +38,7 @@ content-requires c κs =
     let f = c .before .before .before .before in
     let a = f .before .before .args in
     let p = f .before .before .pre in
-    let r = frame-framed (a .s .now) (a .at) (a .end) (p .order) (sym (f .frame .ensures) ∙ c .before .before .enum-told .given .1) in
+    let r = frame-framed (a .s .now) (a .at) (a .end) (sym (f .frame .ensures) ∙ c .before .before .enum-told .given .1) in
     omega arith
 
 enum-known-judged : tie.Need-enum-known-judged
