@@ -105,14 +105,7 @@ module _ {dict : List Entry} {s : List ℕ} {at end depth : ℕ} (p : Passing di
 
   -- the header is as long as V says
   pub header-fits : at + headerAt s at ≤ length s
-  header-fits =
-      let inside = p .inside in
-      let f = framed s at end (p .frame) in
-      let h = f .header in
-      let k = f .fits in
-      let l = padded-least (lengthAt s at) in
-      let e = header-least (flagV (flagsAt s at)) in
-      omega arith
+  header-fits = omega (arith, p .inside, framed s at end (p .frame))
 
   vendor-octets : drop (at + 8) s ≡ vendorOctets (cellAt dict s at depth) ++ drop (at + headerAt s at) s
   vendor-octets =
@@ -200,15 +193,12 @@ module _ {dict : List Entry} {s : List ℕ} {at end depth : ℕ} (p : Passing di
     plain-fit =
         let inside = p .inside in
         let f = framed s at end (p .frame) in
-        let h = f .header in
-        let k = f .fits in
-        let l = padded-least (lengthAt s at) in
         let w = length-whole in
         let whole = padded-whole in
         let size = lengthAt s at in
         let q : length (paddingAt s at) ≡ padded size - size =
-        length-take-le (padded size - size) (drop (at + size) s) (rw length-drop (omega arith)) in
-        fit (paddingAt s at) (rw plain (length-take-le _ _ (rw length-drop (omega arith)))) (omega arith)
+        length-take-le (padded size - size) (drop (at + size) s) (rw length-drop (omega (arith, f))) in
+        fit (paddingAt s at) (rw plain (length-take-le _ _ (rw length-drop (omega (arith, f))))) (omega arith)
 
     pub plain-step : step (plainAt dict s at depth) ≡ padded (lengthAt s at)
     plain-step =
@@ -223,13 +213,12 @@ module _ {dict : List Entry} {s : List ℕ} {at end depth : ℕ} (p : Passing di
         ≡ avpHeader (cellAt dict s at depth)
         ++ (cellAt dict s at depth .octets ++ (paddingAt s at ++ drop (nextAt s at) s))
     plain-octets =
-        let h = framed s at end (p .frame) .header in
-        let l = padded-least (lengthAt s at) in
+        let f = framed s at end (p .frame) in
         let header = headerAt s at in
         let size = lengthAt s at in
         header-octets
         ∙ ap (λ (x : List ℕ). avpHeader (cellAt dict s at depth) ++ x)
-        (cut s (at + header) (size - header) (at + size) (omega arith)
+        (cut s (at + header) (size - header) (at + size) (omega (arith, f))
         ∙ ap (λ (x : List ℕ). take (size - header) (drop (at + header) s) ++ x)
-        (cut s (at + size) (padded size - size) (at + padded size) (omega arith)))
+        (cut s (at + size) (padded size - size) (at + padded size) (omega (arith, f))))
         ∙ rw plain

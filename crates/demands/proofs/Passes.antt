@@ -75,6 +75,28 @@ avps-same dict (x ∷ xs) (y ∷ ys) at f g e =
     )
 
 module _ (s t : List ℕ) where
+  -- what two lists of the same cells have behind their first items
+  record Behind (x y : Item) (xs ys : List Item) (at : ℕ) : Type 0 where
+    cell : x .cell ≡ y .cell
+    cells : map cellIn xs ≡ map cellIn ys
+    steps : step x ≡ step y
+    left : drop (at + step x) s ≡ octetsOf xs
+    right : drop (at + step x) t ≡ octetsOf ys
+
+  behind : (x y : Item) (xs ys : List Item) (at : ℕ) → Fit dictionary x → Fit dictionary y
+      → map cellIn (x ∷ xs) ≡ map cellIn (y ∷ ys)
+      → drop at s ≡ octetsOf (x ∷ xs) → drop at t ≡ octetsOf (y ∷ ys) → Behind x y xs ys at
+  behind x y xs ys at f g e es et =
+      let c : x .cell ≡ y .cell = cc in
+      let st = step-same dictionary x y f g (ap flat c) in
+      record {
+        cell = c;
+        cells = cc;
+        steps = st;
+        left = past-item x s _ at (es ∙ octets-cons x xs);
+        right = ap (λ (k : ℕ). drop (at + k) t) st ∙ past-item y t _ at (et ∙ octets-cons y ys);
+      }
+
   pub passes-again : (xs ys : List Item) (at : ℕ) → All (Fit dictionary) xs → All (Fit dictionary) ys
       → map cellIn xs ≡ map cellIn ys
       → drop at s ≡ octetsOf xs → drop at t ≡ octetsOf ys → Passes dictionary s at xs → Passes dictionary t at ys
@@ -82,14 +104,11 @@ module _ (s t : List ℕ) where
   passes-again [] (y ∷ ys) at f g e es et p = let z : _≡_ {A = ℕ} 0 1 = cc in absurd (omega arith)
   passes-again (x ∷ xs) [] at f g e es et p = let z : _≡_ {A = ℕ} 0 1 = cc in absurd (omega arith)
   passes-again (x ∷ xs) (y ∷ ys) at f g e es et p =
-      let c : x .cell ≡ y .cell = cc in
-      let e′ : map cellIn xs ≡ map cellIn ys = cc in
-      let ds = es ∙ octets-cons x xs in
-      let dt = et ∙ octets-cons y ys in
-      let st = step-same dictionary x y (f .0) (g .0) (ap flat c) in
-      let on : drop (at + step x) t ≡ octetsOf ys = ap (λ (k : ℕ). drop (at + k) t) st ∙ past-item y t _ at dt in
-      let ih = passes-again xs ys (at + step x) (f .1) (g .1) e′ (past-item x s _ at ds) on (p .1) in
-      (contents-again s t at x y (f .0) c _ _ ds dt (p .0), rw st at ih)
+      let b = behind x y xs ys at (f .0) (g .0) e es et in
+      let ih = passes-again xs ys (at + step x) (f .1) (g .1) (b .cells) (b .left) (b .right) (p .1) in (
+        contents-again s t at x y (f .0) (b .cell) _ _ (es ∙ octets-cons x xs) (et ∙ octets-cons y ys) (p .0),
+        rw (b .steps) at ih,
+      )
 
   -- the number of an AVP whose data is four octets
   pub numbers-again : (vendor code : ℕ) → Four vendor code → named blank vendor code ≡ false
@@ -109,12 +128,7 @@ module _ (s t : List ℕ) where
       (four-same s t at x y (f .0) c _ _ (es ∙ octets-cons x xs) (et ∙ octets-cons y ys) (p .0) vendor code four
       (rw (avps-cons at x xs) at n))
   numbers-again vendor code four other (x ∷ xs) (y ∷ ys) at f g e es et p (suc i) n =
-      let c : x .cell ≡ y .cell = cc in
-      let e′ : map cellIn xs ≡ map cellIn ys = cc in
-      let ds = es ∙ octets-cons x xs in
-      let dt = et ∙ octets-cons y ys in
-      let st = step-same dictionary x y (f .0) (g .0) (ap flat c) in
-      let on : drop (at + step x) t ≡ octetsOf ys = ap (λ (k : ℕ). drop (at + k) t) st ∙ past-item y t _ at dt in
+      let b = behind x y xs ys at (f .0) (g .0) e es et in
       rw (avps-cons at x xs)
-      (numbers-again vendor code four other xs ys (at + step x) (f .1) (g .1) e′ (past-item x s _ at ds) on (p .1) i
+      (numbers-again vendor code four other xs ys (at + step x) (f .1) (g .1) (b .cells) (b .left) (b .right) (p .1) i
       (rw (avps-cons at x xs) at n))

@@ -11,13 +11,12 @@ use Rattle.rules.specs.declared.Avp.{Avp}
 use Rattle.rules.specs.declared.Outcome.{Outcome}
 use Rattle.rules.specs.declared.Outcome.the-variants.{Pass, Refused}
 use Rattle.rules.specs.Octets.{padded}
-use Rattle.rules.specs.Avp.{codeAt, flagsAt, flagV, lengthAt, vendorAt, nextAt, avpAt}
+use Rattle.rules.specs.Avp.{codeAt, lengthAt, vendorAt, nextAt, avpAt}
 use Rattle.rules.specs.Dictionary.{Entry, defined, isGroup}
 use Rattle.rules.specs.Walk.{framing, contents, Walked, whole, stopped, after, andThen, walkAvp, walkList}
 use Rattle.rules.specs.Meaning.{isReadGroup}
 use Rattle.rules.specs.Writer.{avpHeader}
-use Rattle.rules.proofs.Octets.{padded-least}
-use Rattle.rules.proofs.Fields.{header-least, avpAt-start, avpAt-end, avpAt-depth}
+use Rattle.rules.proofs.Fields.{avpAt-start, avpAt-end, avpAt-depth}
 use Rattle.rules.proofs.Walk.{by-cases, checked-frame, checked-content, checked-group, checked-plain, avp-many, avp-fault, avp-plain, avp-group, list-end, list-more}
 use Rattle.rules.proofs.Passed.{framed, group-is}
 use Rattle.demands.proofs.Items.{Item, octetsOf, step, avpsAt, Listed}
@@ -149,11 +148,7 @@ module _ (dict : List Entry) (s : List ℕ) (oct : Octets s) (n : ℕ) (ih : Sou
           → Found dict s (nextAt s at) end depth ys
       on ys k w =
           let f = framed s at end (p .frame) in
-          let fits = f .fits in
-          let header = f .header in
-          let least = padded-least (lengthAt s at) in
-          let eight = header-least (flagV (flagsAt s at)) in
-          ih (nextAt s at) end depth (count + k) ys low most (omega arith) inside (omega arith) w
+          ih (nextAt s at) end depth (count + k) ys low most (f .fits) inside (omega (arith, f)) w
 
       sound-plain : isGroup (defined dict (avpAt s at depth)) ≡ false → Found dict s at end depth xs
       sound-plain g =
@@ -167,10 +162,6 @@ module _ (dict : List Entry) (s : List ℕ) (oct : Octets s) (n : ℕ) (ih : Sou
       sound-group g =
           let a = avpAt s at depth in
           let f = framed s at end (p .frame) in
-          let fits = f .fits in
-          let header = f .header in
-          let least = padded-least (lengthAt s at) in
-          let eight = header-least (flagV (flagsAt s at)) in
           let c = checked-group dict s at end depth (p .frame) a refl (defined dict a) refl (p .pass) g in
           let level : depth < 4 = rw (avpAt-depth s at depth) at (group-is dict s at end depth c .2) in
           let inner = walkList n dict s (a .start) (a .start + a .length) (depth + 1) (count + 1) in
@@ -183,13 +174,13 @@ module _ (dict : List Entry) (s : List ℕ) (oct : Octets s) (n : ℕ) (ih : Sou
           ≡ whole (i .0) =
           ap (λ (k : ℕ). walkList n dict s k (at + lengthAt s at) (depth + 1) (count + 1))
           (sym (avpAt-start s at depth))
-          ∙ ap (λ (k : ℕ). walkList n dict s (a .start) k (depth + 1) (count + 1)) (sym (avpAt-end s at depth header))
+          ∙ ap (λ (k : ℕ). walkList n dict s (a .start) k (depth + 1) (count + 1)) (sym (avpAt-end s at depth (f .header)))
           ∙ i .1 in
           group-found p low most xs (j .0) (on (j .0) (length (b .0)) (j .1)) (i .0)
           (sym (defined-at dict s at depth) ∙ g)
           (j .2 ∙ ap (λ (l : List Avp). l ++ j .0) (i .2))
           (ih (at + headerAt s at) (at + lengthAt s at) (depth + 1) (count + 1) (i .0)
-          (omega arith) (omega arith) (omega arith) (omega arith) (omega arith) within)
+          (omega arith) (omega arith) (omega (arith, f)) (omega (arith, f)) (omega (arith, f)) within)
 
     sound-contents : framing s at end ≡ Pass → (o : Outcome)
         → contents s at (avpAt s at depth) (defined dict (avpAt s at depth)) ≡ o

@@ -2,7 +2,7 @@
 use mathlib.Core.Path.{_≡_, refl, sym}
 use mathlib.Core.Bool.{Bool, true, false, cond, not, _&&_, _||_}
 use mathlib.Core.List.{List}
-use Prim.Native.Nat.{ℕ, _-_, _%_, _≤_, _<_}
+use Prim.Native.Nat.{ℕ, _+_, _-_, _%_, _≤_, _<_}
 use native.Mathlib.Omega.{arith}
 use borrow.Author.Tests.{ltb-false, leb-false, eqb-true, not-false}
 use lib.Dec.{ltb, eqb}
@@ -18,7 +18,9 @@ use Rattle.rules.specs.Verdict.{refuseIf}
 use Rattle.rules.specs.Avp.{flagsAt, flagV, lengthAt, headerOf, avpAt}
 use Rattle.rules.specs.Dictionary.{Entry, defined, requiresM, isGroup}
 use Rattle.rules.specs.Walk.{framedBy, framing, wrongFlags, unsupported, wrongWidth, wrongValue, tooDeep, contents, settled, checkedAvp, checked}
+use Rattle.rules.proofs.Octets.{padded-least}
 use Rattle.rules.proofs.Tests.{neither}
+use Rattle.rules.proofs.Fields.{header-least}
 use Rattle.rules.proofs.Walk.{never}
 
 -- a check that lets pass did not apply
@@ -26,20 +28,29 @@ pub not-refused : (b : Bool) (v : Verdict) (o : Outcome) → refuseIf b (Refused
 not-refused true v o e = never e
 not-refused false v o e = (refl, e)
 
--- check 2: room for the header, and padding within the list
+-- check 2: the bounds of an AVP; header, data and padding lie in the list
 pub record Framed (s : List ℕ) (at end : ℕ) : Type 0 where
+  pub eight : 8 ≤ headerOf (flagV (flagsAt s at))
   pub header : headerOf (flagV (flagsAt s at)) ≤ lengthAt s at
-  pub fits : padded (lengthAt s at) ≤ end - at
+  pub least : lengthAt s at ≤ padded (lengthAt s at)
+  pub fits : at + padded (lengthAt s at) ≤ end
 
 pub framed : (s : List ℕ) (at end : ℕ) → framing s at end ≡ Pass → Framed s at end
 unfolding framing framedBy
 framed s at end pass =
     let v = flagV (flagsAt s at) in
-    let eight = not-refused (ltb (end - at) 8) _ _ pass in
-    let twelve = not-refused (v && ltb (end - at) 12) _ _ (eight .1) in
-    let header = not-refused (ltb (lengthAt s at) (headerOf v)) _ _ (twelve .1) in
-    let fits = not-refused (ltb (end - at) (padded (lengthAt s at))) _ _ (header .1) in
-    record { header = ltb-false _ _ (header .0); fits = ltb-false _ _ (fits .0) }
+    let few = not-refused (ltb (end - at) 8) _ _ pass in
+    let short = not-refused (v && ltb (end - at) 12) _ _ (few .1) in
+    let under = not-refused (ltb (lengthAt s at) (headerOf v)) _ _ (short .1) in
+    let past = not-refused (ltb (end - at) (padded (lengthAt s at))) _ _ (under .1) in
+    let left : padded (lengthAt s at) ≤ end - at = ltb-false _ _ (past .0) in
+    let eight : 8 ≤ end - at = ltb-false _ _ (few .0) in
+    record {
+      eight = header-least v;
+      header = ltb-false _ _ (under .0);
+      least = padded-least (lengthAt s at);
+      fits = omega arith;
+    }
 
 -- checks 3 to 7: none of them applies
 pub record Clear (octet : ℕ) (a : Avp) (d : Definition) (n : ℕ) : Type 0 where

@@ -8,21 +8,16 @@ use lib.ListN.{length, getD, take, drop, length-drop}
 use lib.Seq.{length-take-le, getD-take, getD-drop}
 use Rattle.rules.specs.declared.Outcome.the-variants.{Pass}
 use Rattle.rules.specs.Octets.{numberAt}
-use Rattle.rules.specs.Avp.{codeAt, flagsAt, flagV, lengthAt}
+use Rattle.rules.specs.Avp.{codeAt, flagsAt, flagV, headerOf}
 use Rattle.rules.specs.Walk.{framing}
-use Rattle.rules.proofs.Octets.{padded-least, numberAt-part}
-use Rattle.rules.proofs.Fields.{header-least}
+use Rattle.rules.proofs.Octets.{numberAt-part}
 use Rattle.rules.proofs.Passed.{framed}
 use Rattle.walk.specs.Promise.{InList, Framed}
 
 pub frame-framed : (s : List ℕ) (at end : ℕ) → framing s at end ≡ Pass → Framed s at end
 frame-framed s at end pass =
     let f = framed s at end pass in
-    let header = f .header in
-    let fits = f .fits in
-    let least = padded-least (lengthAt s at) in
-    let eight = header-least (flagV (flagsAt s at)) in
-    record { eight = omega arith; header = header; fits = omega arith }
+    record { eight = omega (arith, f); header = f .header; fits = f .fits }
 
 -- ---- the fields of an AVP, read from the rest of its list
 
@@ -42,3 +37,11 @@ module _ (s : List ℕ) (at end : ℕ) (place : InList s at end) where
 
   pub rest-flags : 8 ≤ end - at → getD restOf 4 0 ≡ flagsAt s at
   rest-flags h = getD-take (end - at) (drop at s) 4 0 (omega arith) ∙ getD-drop at s 4 0
+
+  -- an AVP that passed check 2 has its header there, and a length field that holds it
+  module _ (f : Framed s at end) where
+    pub rest-eight : 8 ≤ end - at
+    rest-eight = omega (arith, f .eight)
+
+    pub rest-header : (size : ℕ) → size ≡ numberAt 3 restOf 5 → headerOf (flagV (getD restOf 4 0)) ≤ size
+    rest-header size e = rw (e, rest-number 3 5 rest-eight, rest-flags rest-eight) (f .header)

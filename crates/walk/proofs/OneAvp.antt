@@ -9,18 +9,16 @@ use Rattle.rules.specs.declared.Avp.{Avp}
 use Rattle.rules.specs.declared.Verdict.{Verdict}
 use Rattle.rules.specs.declared.Outcome.the-variants.{Pass}
 use Rattle.rules.specs.declared.Checked.the-variants.{Plain, Group}
-use Rattle.rules.specs.Avp.{flagV, flagsAt, lengthAt, nextAt, avpAt, endOf}
+use Rattle.rules.specs.Avp.{nextAt, avpAt, endOf}
 use Rattle.rules.specs.Dictionary.{dictionary}
 use Rattle.rules.specs.Walk.{framing, checked, Walked, whole, stopped, avpsOf, after, walkAvp, walkList}
-use Rattle.rules.proofs.Octets.{padded-least}
-use Rattle.rules.proofs.Fields.{avpAt-start, avpAt-end, avpAt-depth, header-least}
+use Rattle.rules.proofs.Fields.{avpAt-start, avpAt-end, avpAt-depth}
 use Rattle.rules.proofs.Walk.{avps-after, avp-plain, avp-group}
-use Rattle.rules.proofs.Passed.{plain-is, group-is}
+use Rattle.rules.proofs.Passed.{framed, plain-is, group-is}
 use Rattle.log.specs.Log.{putAvp, written}
 use Rattle.walk.specs.declared.Walk.{Walk}
 use Rattle.walk.specs.declared.Walk.the-variants.{Whole, Stopped}
 use Rattle.walk.specs.Promise.{answerOf, AvpWalked, ListWalked}
-use Rattle.walk.proofs.Framing.{frame-framed}
 
 pub answer-after : (count : ℕ) (xs : List Avp) (w : Walked) → answerOf count (after xs w) ≡ answerOf (count + length xs) w
 answer-after count xs (whole ys) = simp (length-append, add-assoc)
@@ -33,26 +31,23 @@ pub record Placed (s : List ℕ) (at end : ℕ) (a : Avp) : Type 0 where
   pub on : at < nextAt s at
   pub inside : nextAt s at ≤ end
 
-placed : (s : List ℕ) (at end depth : ℕ) → at ≤ end → framing s at end ≡ Pass → Placed s at end (avpAt s at depth)
-placed s at end depth order pass =
-    let f = frame-framed s at end pass in
-    let least = padded-least (lengthAt s at) in
-    let eight = header-least (flagV (flagsAt s at)) in
+placed : (s : List ℕ) (at end depth : ℕ) → framing s at end ≡ Pass → Placed s at end (avpAt s at depth)
+placed s at end depth pass =
+    let f = framed s at end pass in
     let begin = avpAt-start s at depth in
     let stop = avpAt-end s at depth (f .header) in
-    let header = f .header in
-    record { start = omega arith; inner = omega arith; on = omega arith; inside = f .fits }
+    record { start = omega (arith, f); inner = omega (arith, f); on = omega (arith, f); inside = f .fits }
 
-module _ (s : List ℕ) (at end depth : ℕ) (order : at ≤ end) where
+module _ (s : List ℕ) (at end depth : ℕ) where
   pub plain-placed : {a : Avp} → checked dictionary s at end depth ≡ Plain a → Placed s at end a
   plain-placed e =
       let i = plain-is dictionary s at end depth e in
-      rw (i .1) (placed s at end depth order (i .0))
+      rw (i .1) (placed s at end depth (i .0))
 
   pub group-placed : {a : Avp} → checked dictionary s at end depth ≡ Group a → Placed s at end a
   group-placed e =
       let i = group-is dictionary s at end depth e in
-      rw (i .1) (placed s at end depth order (i .0))
+      rw (i .1) (placed s at end depth (i .0))
 
   pub group-level : {a : Avp} → checked dictionary s at end depth ≡ Group a → depth < 4
   group-level e =

@@ -7,7 +7,7 @@ use borrow.Author.Tests.{eq-eqb, ne-eqb}
 use Rattle.rules.specs.Avp.{flagV, flagsAt, lengthAt}
 use Rattle.rules.proofs.Octets.{padded-least}
 use Rattle.rules.proofs.Fields.{header-plain, header-vendor, avpAt-plain, avpAt-vendor}
-use Rattle.walk.proofs.Framing.{rest-number, rest-code, rest-flags}
+use Rattle.walk.proofs.Framing.{rest-number, rest-code, rest-flags, rest-eight, rest-header}
 use Rattle.walk.proofs.frame.avp_at.Statement.{statement}
 use Rattle.walk.proofs.frame.avp_at.Tie as tie
 
@@ -40,16 +40,8 @@ sub-t22 c =
     let n = c .before .before in
     let st = n .before .before .before .before in
     let a = st .args in
-    let s = a .s .now in
-    let p = st .pre .0 in
-    let f = st .pre .1 in
-    let h : 8 ≤ a .end - a .at = omega (arith, f .eight) in
-    omega (
-      arith,
-      n .number3 .ensures .is,
-      rest-number s (a .at) (a .end) p 3 5 h,
-      header-plain (flagV (flagsAt s (a .at))) _ (ne-eqb _ _ (rw (rest-flags s (a .at) (a .end) p h) at (c .if1 .taken))) (f .header),
-    )
+    let h = rest-header (a .s .now) (a .at) (a .end) (st .pre .0) (st .pre .1) _ (n .number3 .ensures .is) in
+    omega (arith, header-plain _ _ (ne-eqb _ _ (c .if1 .taken)) h)
 
 returns : tie.Need-returns
 returns c =
@@ -59,7 +51,7 @@ returns c =
     let s = a .s .now in
     let p = st .pre .0 in
     let f = st .pre .1 in
-    let h : 8 ≤ a .end - a .at = omega (arith, f .eight) in
+    let h = rest-eight s (a .at) (a .end) p f in
     rw (n .number3 .ensures .is, n .before .number4 .ensures .is, rest-number s (a .at) (a .end) p 3 5 h, rest-code s (a .at) (a .end) p h, rest-flags s (a .at) (a .end) p h)
     (sym (avpAt-plain s (a .at) (a .depth) (ne-eqb _ _ (rw (rest-flags s (a .at) (a .end) p h) at (c .if1 .taken)))))
 
@@ -77,16 +69,8 @@ sub-t26 c =
     let n = c .before .before .before in
     let st = n .before .before .before .before in
     let a = st .args in
-    let s = a .s .now in
-    let p = st .pre .0 in
-    let f = st .pre .1 in
-    let h : 8 ≤ a .end - a .at = omega (arith, f .eight) in
-    omega (
-      arith,
-      n .number3 .ensures .is,
-      rest-number s (a .at) (a .end) p 3 5 h,
-      header-vendor (flagV (flagsAt s (a .at))) _ (eq-eqb _ _ (rw (rest-flags s (a .at) (a .end) p h) at (c .before .if1 .left))) (f .header),
-    )
+    let h = rest-header (a .s .now) (a .at) (a .end) (st .pre .0) (st .pre .1) _ (n .number3 .ensures .is) in
+    omega (arith, header-vendor _ _ (eq-eqb _ _ (c .before .if1 .left)) h)
 
 returns-2 : tie.Need-returns-2
 returns-2 c =
@@ -96,7 +80,7 @@ returns-2 c =
     let s = a .s .now in
     let p = st .pre .0 in
     let f = st .pre .1 in
-    let h : 8 ≤ a .end - a .at = omega (arith, f .eight) in
+    let h = rest-eight s (a .at) (a .end) p f in
     let v = (eq-eqb _ _ (rw (rest-flags s (a .at) (a .end) p h) at (c .before .if1 .left))) in
     let t : 12 ≤ a .end - a .at = omega (arith, header-vendor (flagV (flagsAt s (a .at))) _ v (f .header), padded-least (lengthAt s (a .at)), f .fits) in
     rw (c .number42 .ensures .is, n .number3 .ensures .is, n .before .number4 .ensures .is, rest-number s (a .at) (a .end) p 4 8 t, rest-number s (a .at) (a .end) p 3 5 h, rest-code s (a .at) (a .end) p h, rest-flags s (a .at) (a .end) p h)
