@@ -14,7 +14,6 @@ pub mod agreement
 pub mod again
 -- no refusal has the number 0
 pub mod numbering
-
 -- lists of write calls, and what their answers tell
 pub mod calls
 -- the demands, each in its own words
