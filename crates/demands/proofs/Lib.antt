@@ -1,30 +1,20 @@
--- The laws that carry the demands, by topic, and the demands themselves.
-pub mod Items
-pub mod Numbers
-pub mod Trees
-pub mod Sequences
-pub mod Lists
-pub mod Fields
-pub mod Judged
-pub mod Read
-pub mod Cells
-pub mod Flags
-pub mod Headers
-pub mod Drafts
-pub mod Writing
-pub mod Calls
-pub mod Digits
-pub mod Passed
-pub mod OneItem
-pub mod Soundness
-pub mod Commands
-pub mod Depths
-pub mod Paddings
-pub mod Places
-pub mod Alike
-pub mod Agreement
-pub mod Contents
-pub mod Passes
-pub mod Exchanges
-pub mod Canonical
-pub mod RoundTrip
+-- The demands, and the laws that carry them, one folder a topic. Read Demands first.
+
+-- octets and numbers
+pub mod octets
+-- AVPs in walk order with their octets
+pub mod items
+-- what is written is read: the octets of items, of a meaning and of a draft
+pub mod written
+-- what is read was written: the items behind a walk that ends whole, and an accepted command
+pub mod read
+-- two accepted commands mean the same exactly when they agree
+pub mod agreement
+-- the round trip: a command written anew from its record
+pub mod again
+-- no refusal has the number 0
+pub mod numbering
+-- lists of write calls, and what their answers tell
+pub mod calls
+-- the demands, each in its own words
+pub mod Demands

@@ -16,7 +16,7 @@ use Rattle.rules.specs.Walk.{Walked, whole, stopped, avpsOf}
 use Rattle.rules.specs.Command.{walkOf, listsOutcome, walkedOutcome, commandOutcome, commandVerdict}
 use Rattle.rules.specs.Record.{recordOf, emptyRecord, reading}
 use Rattle.rules.proofs.Outcomes.{refused-first, pass-first}
-use Rattle.rules.proofs.Header.{length-enough, length-within, header-length}
+use Rattle.rules.proofs.Header.{headed}
 use Rattle.rules.proofs.Walk.{never}
 use Rattle.log.specs.Log.{avpsIn}
 use Rattle.walk.specs.declared.Walk.{Walk}
@@ -51,10 +51,10 @@ module _ (s : List ℕ) where
 
   module _ (pass : headerOutcome s ≡ Pass) where
     pub header-long : 20 ≤ length s
-    header-long = length-enough s (header-length s pass)
+    header-long = headed s pass .enough
 
     pub header-short : length s ≤ 16384
-    header-short = length-within s (header-length s pass)
+    header-short = headed s pass .within
 
     walk-of : commandWalk s ≡ walkOf s
     unfolding commandWalk

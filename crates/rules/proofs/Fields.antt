@@ -5,7 +5,7 @@ use mathlib.Core.List.{List}
 use Prim.Native.Nat.{ℕ, _+_, _-_, _≤_}
 use native.Mathlib.Omega.{arith}
 use lib.Dec.{lit≤}
-use Rattle.rules.specs.Octets.{numberAt}
+use Rattle.rules.specs.Octets.{numberAt, padded}
 use Rattle.rules.specs.Avp.{codeAt, flagsAt, flagV, flagM, flagP, lengthAt, headerOf, avpAt, endOf}
 
 -- the header's octets, where they are known to fit
@@ -52,6 +52,12 @@ module _ (s : List ℕ) (at depth : ℕ) where
 pub header-least : (v : Bool) → 8 ≤ headerOf v
 header-least true = lit≤ tt
 header-least false = lit≤ tt
+
+-- a header has a multiple of four octets
+pub padded-header : (v : Bool) (n : ℕ) → padded (headerOf v + n) ≡ headerOf v + padded n
+unfolding padded
+padded-header true n = omega arith
+padded-header false n = omega arith
 
 pub avpAt-depth : (s : List ℕ) (at depth : ℕ) → avpAt s at depth .depth ≡ depth
 unfolding avpAt

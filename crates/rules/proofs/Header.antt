@@ -1,17 +1,19 @@
--- Laws of the header's checks, case by case.
+-- Laws of the header's checks, case by case, and what a header that passes tells.
 use mathlib.Core.Path.{_≡_, sym, _∙_}
-use mathlib.Core.Bool.{true, false, _&&_}
+use mathlib.Core.Bool.{true, false, not, _&&_, _||_}
 use mathlib.Core.List.{List}
 use Prim.Native.Nat.{ℕ, _%_, _≤_, _<_}
 use native.Mathlib.Omega.{arith}
-use borrow.Author.Tests.{lt-ltb, le-ltb, eq-eqb, ne-eqb, ltb-true, ltb-false, eqb-true, eqb-false}
+use borrow.Author.Tests.{lt-ltb, le-ltb, eq-eqb, ne-eqb, ltb-true, ltb-false, eqb-true, not-false}
 use lib.Dec.{ltb, eqb}
 use lib.ListN.{length}
 use Rattle.rules.specs.declared.Outcome.the-variants.{Pass}
 use Rattle.rules.specs.Verdict.{refused, orElse}
-use Rattle.rules.specs.Header.{version, lengthField, commandCode, application, isRequest, isProxiable, isError, lengthOutcome, applicationOutcome, flagsOutcome, headerOutcome, commandFlags}
+use Rattle.rules.specs.Header.{headerSize, version, lengthField, commandCode, application, isRequest, isProxiable, isError, lengthOutcome, applicationOutcome, flagsOutcome, headerOutcome, commandFlags, applicationNt, codeBackgroundDataTransfer, longestCommand}
 use Rattle.rules.proofs.Outcomes.{both-pass}
+use Rattle.rules.proofs.Tests.{neither}
 use Rattle.rules.proofs.Walk.{by-cases, never}
+use Rattle.rules.proofs.Passed.{not-refused}
 
 module _ (s : List ℕ) where
   pub length-few : length s < 20 → lengthOutcome s ≡ refused 5015 0 0 0
@@ -55,25 +57,6 @@ module _ (s : List ℕ) where
             length-pass h =
                 rw (le-ltb (length s) 20 enough, eq-eqb (version s) 1 right, le-ltb (lengthField s) 20 least, eq-eqb (lengthField s % 4) 0 four, eq-eqb (lengthField s) (length s) same, le-ltb 16384 (lengthField s) h)
 
--- a header that passes is of at least 20 octets and of at most 16,384
-module _ (s : List ℕ) (e : lengthOutcome s ≡ Pass) where
-  field-within : (lengthField s ≡ length s) × (lengthField s ≤ 16384)
-  field-within =
-      let enough = length-enough s e in
-      by-cases (eqb (version s) 1) (λ v. let version = eqb-true _ _ v in
-      by-cases (ltb (lengthField s) 20) (λ h. never (sym (length-under s enough version (ltb-true _ _ h)) ∙ e))
-      (λ h. let least = ltb-false _ _ h in
-      by-cases (eqb (lengthField s % 4) 0) (λ m. let four = eqb-true _ _ m in
-      by-cases (eqb (lengthField s) (length s)) (λ q. let same = eqb-true _ _ q in
-      by-cases (ltb 16384 (lengthField s)) (λ l. never (sym (length-long s enough version least four same (ltb-true _ _ l)) ∙ e))
-      (λ l. (same, ltb-false _ _ l)))
-      (λ q. never (sym (length-other s enough version least four (eqb-false _ _ q)) ∙ e)))
-      (λ m. never (sym (length-multiple s enough version least (eqb-false _ _ m)) ∙ e))))
-      (λ v. never (sym (length-version s enough (eqb-false _ _ v)) ∙ e))
-
-  pub length-within : length s ≤ 16384
-  length-within = let f = field-within in omega arith
-
 module _ (s : List ℕ) where
   pub application-other : (application s ≡ 16777348 → ⊥) → applicationOutcome s ≡ refused 3007 8 0 0
   unfolding applicationOutcome
@@ -87,11 +70,6 @@ module _ (s : List ℕ) where
     pub application-pass : commandCode s ≡ 8388723 → applicationOutcome s ≡ Pass
     unfolding applicationOutcome
     application-pass h = rw (eq-eqb (application s) 16777348 nt, eq-eqb (commandCode s) 8388723 h)
-
--- a header that passes has its length checks passed
-pub header-length : (s : List ℕ) → headerOutcome s ≡ Pass → lengthOutcome s ≡ Pass
-unfolding headerOutcome
-header-length s e = both-pass (lengthOutcome s) (orElse (applicationOutcome s) (flagsOutcome (commandFlags s))) e .0
 
 module _ (flags : ℕ) where
   pub flags-error-request : (isRequest flags && isError flags) ≡ true → flagsOutcome flags ≡ refused 3008 4 0 0
@@ -111,3 +89,44 @@ module _ (flags : ℕ) where
       pub flags-pass : isError flags ≡ false → flagsOutcome flags ≡ Pass
       unfolding flagsOutcome
       flags-pass h = rw (one, proxiable, h)
+
+-- ---- what a header that passes tells
+
+pub record Headed (c : List ℕ) : Type 0 where
+  pub enough : 20 ≤ length c
+  pub version-is : version c ≡ 1
+  pub field-is : lengthField c ≡ length c
+  pub four : lengthField c % 4 ≡ 0
+  pub within : length c ≤ 16384
+  pub application-is : application c ≡ applicationNt
+  pub code-is : commandCode c ≡ codeBackgroundDataTransfer
+  pub flags-pass : flagsOutcome (commandFlags c) ≡ Pass
+
+pub headed : (c : List ℕ) → headerOutcome c ≡ Pass → Headed c
+unfolding headerOutcome lengthOutcome applicationOutcome
+headed c e =
+    let a = both-pass (lengthOutcome c) (orElse (applicationOutcome c) (flagsOutcome (commandFlags c))) e in
+    let b = both-pass (applicationOutcome c) (flagsOutcome (commandFlags c)) (a .1) in
+    let enough = not-refused (ltb (length c) headerSize) _ _ (a .0) in
+    let one = not-refused (not (eqb (version c) 1)) _ _ (enough .1) in
+    let size = lengthField c in
+    let few = ltb size headerSize in
+    let uneven = not (eqb (size % 4) 0) in
+    let unequal = not (eqb size (length c)) in
+    let field = not-refused (few || uneven || unequal) _ _ (one .1) in
+    let long = not-refused (ltb longestCommand size) _ _ (field .1) in
+    let nt = not-refused (not (eqb (application c) applicationNt)) _ _ (b .0) in
+    let code = not-refused (not (eqb (commandCode c) codeBackgroundDataTransfer)) _ _ (nt .1) in
+    let whole = neither (few || uneven) unequal (field .0) in
+    let four = neither few uneven (whole .0) in
+    let same = eqb-true size (length c) (not-false _ (whole .1)) in
+    record {
+      enough = ltb-false _ _ (enough .0);
+      version-is = eqb-true _ _ (not-false _ (one .0));
+      field-is = same;
+      four = eqb-true _ _ (not-false _ (four .1));
+      within = omega (arith, ltb-false longestCommand size (long .0));
+      application-is = eqb-true _ _ (not-false _ (nt .0));
+      code-is = eqb-true _ _ (not-false _ (code .0));
+      flags-pass = b .1;
+    }

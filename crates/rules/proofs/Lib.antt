@@ -1,8 +1,11 @@
 -- The laws of the definitions, by topic. They name no code.
 pub mod Octets
+pub mod Tests
 pub mod Outcomes
 pub mod Fields
 pub mod Names
 pub mod Walk
+pub mod Passed
 pub mod Header
+pub mod Commands
 pub mod Searches

@@ -1,24 +1,21 @@
 -- Laws of the walk's definitions, case by case: the checks of an AVP, one AVP, and the list. They hold for every dictionary.
-use mathlib.Core.Path.{_≡_, refl, sym, _∙_}
-use mathlib.Core.Bool.{Bool, true, false, cond}
+use mathlib.Core.Path.{_≡_, refl, _∙_}
+use mathlib.Core.Bool.{Bool, true, false}
 use mathlib.Core.List.{List, [], _∷_, _++_, append-assoc}
 use Prim.Native.Nat.{ℕ, zero, suc, _+_, _-_, _≤_, _<_}
 use native.Mathlib.Omega.{arith}
-use borrow.Author.Tests.{lt-ltb, le-ltb, le-leb, lt-leb, ltb-false, leb-false}
-use lib.Dec.{ltb}
+use borrow.Author.Tests.{lt-ltb, le-ltb, le-leb, lt-leb}
 use lib.ListN.{length}
 use Rattle.rules.specs.declared.Avp.{Avp}
 use Rattle.rules.specs.declared.Verdict.{Verdict}
-use Rattle.rules.specs.declared.Outcome.{Outcome}
 use Rattle.rules.specs.declared.Outcome.the-variants.{Pass, Refused}
-use Rattle.rules.specs.declared.Checked.{Checked}
 use Rattle.rules.specs.declared.Checked.the-variants.{Fault, Plain, Group}
 use Rattle.rules.specs.declared.Definition.{Definition}
 use Rattle.rules.specs.Octets.{numberAt, padded}
 use Rattle.rules.specs.Verdict.{verdict, refused}
 use Rattle.rules.specs.Avp.{codeAt, flagsAt, flagV, lengthAt, nextAt, avpAt}
 use Rattle.rules.specs.Dictionary.{Entry, defined, isGroup}
-use Rattle.rules.specs.Walk.{framedBy, framing, wrongFlags, unsupported, wrongWidth, wrongValue, tooDeep, contents, settled, checkedAvp, checked, Walked, whole, stopped, avpsOf, after, andThen, walkAvp, walkList}
+use Rattle.rules.specs.Walk.{framedBy, framing, wrongFlags, unsupported, wrongWidth, wrongValue, tooDeep, contents, checkedAvp, checked, Walked, whole, stopped, avpsOf, after, andThen, walkAvp, walkList}
 
 -- a test holds or it does not
 pub by-cases : {C : Type 0} (b : Bool) → (b ≡ true → C) → (b ≡ false → C) → C
@@ -43,16 +40,6 @@ module _ (at left header size vendor code : ℕ) where
   pub framedBy-pass : header ≤ size → padded size ≤ left → framedBy at left header size vendor code ≡ Pass
   unfolding framedBy
   framedBy-pass h k = rw (le-ltb size header h, le-ltb left (padded size) k)
-
-  -- what passes has room for its header, and lies with its padding in what is left
-  pub framedBy-fits : framedBy at left header size vendor code ≡ Pass → (header ≤ size) × (padded size ≤ left)
-  unfolding framedBy
-  framedBy-fits e =
-      by-cases (ltb size header)
-      (λ h. never (rw h at e))
-      (λ h. by-cases (ltb left (padded size))
-      (λ k. never (rw (h, k) at e))
-      (λ k. (ltb-false _ _ h, ltb-false _ _ k)))
 
 module _ (s : List ℕ) (at end : ℕ) where
   pub framing-left : end - at < 8 → framing s at end ≡ refused 5014 at 0 0
@@ -127,57 +114,6 @@ module _ (dict : List Entry) (s : List ℕ) (at end depth : ℕ) where
 
     pub checked-plain : contents s at a d ≡ Pass → isGroup d ≡ false → checked dict s at end depth ≡ Plain a
     checked-plain e g = checked-on ∙ rw (← says, e, g)
-
--- ---- what checks that passed tell
-
-no-fault : (o : Outcome) (c x : Checked) → settled o c ≡ x → ((v : Verdict) → x ≡ Fault v → ⊥) → (o ≡ Pass) × (c ≡ x)
-no-fault Pass c x e n = (refl, e)
-no-fault (Refused v) c x e n = absurd (n v (sym e))
-
-plain-of : (b : Bool) (a x : Avp) → cond b (Group a) (Plain a) ≡ Plain x → a ≡ x
-plain-of true a x e = let z : _≡_ {A = ℕ} 0 1 = cc in absurd (omega arith)
-plain-of false a x e = cc
-
-group-of : (b : Bool) (a x : Avp) → cond b (Group a) (Plain a) ≡ Group x → (b ≡ true) × (a ≡ x)
-group-of true a x e = (refl, cc)
-group-of false a x e = let z : _≡_ {A = ℕ} 0 1 = cc in absurd (omega arith)
-
-contents-level : (s : List ℕ) (at : ℕ) (a : Avp) (d : Definition) → contents s at a d ≡ Pass → isGroup d ≡ true → a .depth < 4
-unfolding tooDeep
-contents-level s at a d e g =
-    by-cases (wrongFlags (flagsAt s at) a d) (λ h. never (sym (contents-3009 s at a d h) ∙ e))
-    (λ flags. by-cases (unsupported a d) (λ h. never (sym (contents-5001 s at a d flags h) ∙ e))
-    (λ known. by-cases (wrongWidth a d) (λ h. never (sym (contents-5014 s at a d flags known h) ∙ e))
-    (λ width. by-cases (wrongValue a (numberAt 4 s (a .start))) (λ h. never (sym (contents-5004 s at a d flags known width h) ∙ e))
-    (λ value. by-cases (tooDeep a d) (λ h. never (sym (contents-7003 s at a d flags known width value h) ∙ e))
-    (λ h. leb-false 4 (a .depth) (rw g at h))))))
-
-module _ (dict : List Entry) (s : List ℕ) (at end depth : ℕ) where
-  checked-pass : (x : Checked) → checked dict s at end depth ≡ x → ((v : Verdict) → x ≡ Fault v → ⊥)
-      → (framing s at end ≡ Pass) × (checkedAvp dict s at (avpAt s at depth) ≡ x)
-  unfolding checked
-  checked-pass x e n = no-fault (framing s at end) (checkedAvp dict s at (avpAt s at depth)) x e n
-
-  -- a plain AVP is the one at its place
-  pub plain-is : {a : Avp} → checked dict s at end depth ≡ Plain a → (framing s at end ≡ Pass) × (a ≡ avpAt s at depth)
-  plain-is {a} e =
-      let n : (v : Verdict) → Plain a ≡ Fault v → ⊥ = λ v f. let z : _≡_ {A = ℕ} 0 1 = cc in omega arith in
-      let f = checked-pass (Plain a) e n in
-      let x = avpAt s at depth in
-      let c = no-fault (contents s at x (defined dict x)) (cond (isGroup (defined dict x)) (Group x) (Plain x)) (Plain a) (f .1) n in
-      (f .0, sym (plain-of (isGroup (defined dict x)) x a (c .1)))
-
-  -- so is a group, and it stands no deeper than 3
-  pub group-is : {a : Avp} → checked dict s at end depth ≡ Group a
-      → (framing s at end ≡ Pass) × (a ≡ avpAt s at depth) × (a .depth < 4)
-  group-is {a} e =
-      let n : (v : Verdict) → Group a ≡ Fault v → ⊥ = λ v f. let z : _≡_ {A = ℕ} 0 1 = cc in omega arith in
-      let f = checked-pass (Group a) e n in
-      let x = avpAt s at depth in
-      let c = no-fault (contents s at x (defined dict x)) (cond (isGroup (defined dict x)) (Group x) (Plain x)) (Group a) (f .1) n in
-      let g = group-of (isGroup (defined dict x)) x a (c .1) in
-      let l = contents-level s at x (defined dict x) (c .0) (g .0) in
-      (f .0, sym (g .1), rw (g .1) at l)
 
 -- ---- walks: AVPs before, and AVPs after
 

@@ -41,15 +41,15 @@ module _ (b : ℕ) where
   then-bounded (stopped xs v) f h k = h
 
   module _ (list : ℕ → ℕ → ℕ → ℕ → Walked) (inner : (at end depth count : ℕ) → end ≤ b → Bounded b (avpsOf (list at end depth count)))
-      (s : List ℕ) (at end depth count : ℕ) (order : at ≤ end) (within : end ≤ b) where
+      (s : List ℕ) (at end depth count : ℕ) (within : end ≤ b) where
     entered-bounded : count < 256 → (c : Checked) → checked dictionary s at end depth ≡ c
         → Bounded b (avpsOf (walkAvp list dictionary s at end depth count))
     entered-bounded few (Fault v) e = rw (avp-fault list dictionary s at end depth count few e) tt
     entered-bounded few (Plain a) e =
-        let p = plain-placed s at end depth order e in
+        let p = plain-placed s at end depth e in
         rw (avp-plain list dictionary s at end depth count few e) (omega (arith, p .inner), tt)
     entered-bounded few (Group a) e =
-        let p = group-placed s at end depth order e in
+        let p = group-placed s at end depth e in
         rw (avp-group list dictionary s at end depth count few e, avps-after)
         (omega (arith, p .inner), inner (a .start) (a .start + a .length) (depth + 1) (count + 1) (omega (arith, p .inner)))
 
@@ -69,7 +69,7 @@ module _ (b : ℕ) where
       rw (list-more n dictionary s at end depth count (ltb-true _ _ more))
       (then-bounded (walkAvp (walkList n dictionary s) dictionary s at end depth count)
       (λ k. walkList n dictionary s (nextAt s at) end depth (count + k))
-      (avp-bounded (walkList n dictionary s) inner s at end depth count (omega (arith, ltb-true at end more)) h)
+      (avp-bounded (walkList n dictionary s) inner s at end depth count h)
       (λ k. inner (nextAt s at) end depth (count + k) h)))
       (λ past. rw (list-end (suc n) dictionary s at end depth count (ltb-false _ _ past)) tt)
 

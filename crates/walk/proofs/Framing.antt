@@ -20,31 +20,11 @@ use Rattle.rules.specs.Dictionary.{dictionary}
 use Rattle.rules.specs.Walk.{framedBy, framing, checkedAvp, checked}
 use Rattle.rules.proofs.Octets.{numberAt-part}
 use Rattle.rules.proofs.Fields.{avpAt-plain, avpAt-vendor}
-use Rattle.rules.proofs.Walk.{by-cases, never, framedBy-fits, framing-left, framing-plain, framing-vendor-left, framing-vendor, checked-frame}
+use Rattle.rules.proofs.Passed.{Framed, framed}
+use Rattle.rules.proofs.Walk.{by-cases, framing-left, framing-plain, framing-vendor-left, framing-vendor, checked-frame}
 use Rattle.walk.specs.declared.frame.Frame.{Frame}
 use Rattle.walk.specs.declared.frame.Frame.the-variants.{Holds, Broken}
-use Rattle.walk.specs.Promise.{InList, frameOf, broken, heldBy, isCut, Framed}
-
-module _ (s : List ℕ) (at end : ℕ) (order : at ≤ end) (pass : framing s at end ≡ Pass) where
-  framed-plain : 8 ≤ end - at → flagV (flagsAt s at) ≡ false → Framed s at end
-  framed-plain h v =
-      let fits = framedBy-fits at (end - at) 8 (lengthAt s at) 0 (codeAt s at) (sym (framing-plain s at end h v) ∙ pass) in
-      record { eight = omega arith; header = rw v (fits .0); fits = omega arith }
-
-  framed-vendor : 12 ≤ end - at → flagV (flagsAt s at) ≡ true → Framed s at end
-  framed-vendor h v =
-      let fits = framedBy-fits at (end - at) 12 (lengthAt s at) (numberAt 4 s (at + 8)) (codeAt s at) (sym (framing-vendor s at end h v) ∙ pass) in
-      record { eight = omega arith; header = rw v (fits .0); fits = omega arith }
-
-  pub frame-framed : Framed s at end
-  frame-framed =
-      by-cases (ltb (end - at) 8)
-      (λ l. never (sym (framing-left s at end (ltb-true _ _ l)) ∙ pass))
-      (λ l. by-cases (flagV (flagsAt s at))
-      (λ v. by-cases (ltb (end - at) 12)
-      (λ k. never (sym (framing-vendor-left s at end (ltb-false _ _ l) v (ltb-true _ _ k)) ∙ pass))
-      (λ k. framed-vendor (ltb-false _ _ k) v))
-      (λ v. framed-plain (ltb-false _ _ l) v))
+use Rattle.walk.specs.Promise.{InList, frameOf, broken, heldBy, isCut}
 
 -- ---- what check 2 handed back
 
@@ -57,8 +37,8 @@ broken-is Pass v x e = let z : _≡_ {A = ℕ} 0 1 = cc in absurd (omega arith)
 broken-is (Refused u) v x e = cc
 
 module _ (s : List ℕ) (at end depth : ℕ) where
-  pub holds-framed : at ≤ end → {a : Avp} → Holds a ≡ frameOf (framing s at end) (avpAt s at depth) → Framed s at end
-  holds-framed order {a} e = frame-framed s at end order (holds-is (framing s at end) a (avpAt s at depth) e .0)
+  pub holds-framed : {a : Avp} → Holds a ≡ frameOf (framing s at end) (avpAt s at depth) → Framed s at end
+  holds-framed {a} e = framed s at end (holds-is (framing s at end) a (avpAt s at depth) e .0)
 
   pub holds-checked : {a : Avp} → Holds a ≡ frameOf (framing s at end) (avpAt s at depth)
       → checked dictionary s at end depth ≡ checkedAvp dictionary s at a

@@ -1,6 +1,5 @@
 -- The promise of the AVP walk, from what its checks gave.
 use mathlib.Core.Path.{_≡_, refl, sym, ap, _∙_}
-use mathlib.Core.Bool.{Bool, true, false}
 use mathlib.Core.List.{List, []}
 use Prim.Native.Nat.{ℕ, _+_, _-_, _≤_, _<_}
 use native.Mathlib.Nat.{add-assoc}
@@ -14,15 +13,14 @@ use Rattle.rules.specs.Avp.{flagV, flagsAt, lengthAt, headerOf, nextAt, avpAt, 
 use Rattle.rules.specs.Octets.{padded}
 use Rattle.rules.specs.Dictionary.{dictionary}
 use Rattle.rules.specs.Walk.{framing, checked, Walked, whole, stopped, avpsOf, after, walkAvp, walkList}
-use Rattle.rules.proofs.Octets.{padded-least}
-use Rattle.rules.proofs.Fields.{avpAt-start, avpAt-end, avpAt-depth, header-least}
-use Rattle.rules.proofs.Walk.{plain-is, group-is, avps-after, avp-plain, avp-group}
+use Rattle.rules.proofs.Fields.{avpAt-start, avpAt-end, avpAt-depth, padded-header}
+use Rattle.rules.proofs.Walk.{avps-after, avp-plain, avp-group}
+use Rattle.rules.proofs.Passed.{framed, plain-is, group-is}
 use Rattle.log.specs.Log.{putAvp, written}
 use Rattle.walk.specs.declared.Walk.{Walk}
 use Rattle.walk.specs.declared.Walk.the-variants.{Whole, Stopped}
 use Rattle.walk.specs.declared.Step.the-variants.{On, Halted}
 use Rattle.walk.specs.Promise.{answerOf, nextAfter, stepTo, AvpWalked, ListWalked}
-use Rattle.walk.proofs.Framing.{frame-framed}
 
 pub answer-after : (count : ℕ) (xs : List Avp) (w : Walked) → answerOf count (after xs w) ≡ answerOf (count + length xs) w
 answer-after count xs (whole ys) = simp (length-append, add-assoc)
@@ -37,15 +35,12 @@ pub step-halted : (place : ℕ) (v : Verdict) (w : Walk) → Halted v ≡ stepTo
 step-halted place v (Whole d) e = let z : _≡_ {A = ℕ} 0 1 = cc in absurd (omega arith)
 step-halted place v (Stopped u) e = cc
 
--- a header is a multiple of four octets, so padding the data pads the AVP
-padded-header : (v : Bool) (n : ℕ) → headerOf v ≤ n → headerOf v + padded (n - headerOf v) ≡ padded n
-unfolding padded
-padded-header true n h = omega arith
-padded-header false n h = omega arith
-
 next-after : (s : List ℕ) (at depth : ℕ) → headerOf (flagV (flagsAt s at)) ≤ lengthAt s at → nextAfter (avpAt s at depth) ≡ nextAt s at
 unfolding avpAt
-next-after s at depth h = omega (arith, padded-header (flagV (flagsAt s at)) (lengthAt s at) h)
+next-after s at depth h =
+    let v = flagV (flagsAt s at) in
+    let e : headerOf v + (lengthAt s at - headerOf v) ≡ lengthAt s at = omega arith in
+    omega (arith, ap padded e, padded-header v (lengthAt s at - headerOf v))
 
 -- where an AVP that passed lies, and where the next one stands
 pub record Placed (s : List ℕ) (at end : ℕ) (a : Avp) : Type 0 where
@@ -55,26 +50,29 @@ pub record Placed (s : List ℕ) (at end : ℕ) (a : Avp) : Type 0 where
   pub on : at < nextAt s at
   pub inside : nextAt s at ≤ end
 
-placed : (s : List ℕ) (at end depth : ℕ) → at ≤ end → framing s at end ≡ Pass → Placed s at end (avpAt s at depth)
-placed s at end depth order pass =
-    let f = frame-framed s at end order pass in
-    let least = padded-least (lengthAt s at) in
-    let eight = header-least (flagV (flagsAt s at)) in
+placed : (s : List ℕ) (at end depth : ℕ) → framing s at end ≡ Pass → Placed s at end (avpAt s at depth)
+placed s at end depth pass =
+    let f = framed s at end pass in
     let begin = avpAt-start s at depth in
     let stop = avpAt-end s at depth (f .header) in
-    let header = f .header in
-    record { start = omega arith; inner = omega arith; next = next-after s at depth header; on = omega arith; inside = f .fits }
+    record {
+      start = omega (arith, f);
+      inner = omega (arith, f);
+      next = next-after s at depth (f .header);
+      on = omega (arith, f);
+      inside = f .fits;
+    }
 
-module _ (s : List ℕ) (at end depth : ℕ) (order : at ≤ end) where
+module _ (s : List ℕ) (at end depth : ℕ) where
   pub plain-placed : {a : Avp} → checked dictionary s at end depth ≡ Plain a → Placed s at end a
   plain-placed e =
       let i = plain-is dictionary s at end depth e in
-      rw (i .1) (placed s at end depth order (i .0))
+      rw (i .1) (placed s at end depth (i .0))
 
   pub group-placed : {a : Avp} → checked dictionary s at end depth ≡ Group a → Placed s at end a
   group-placed e =
       let i = group-is dictionary s at end depth e in
-      rw (i .1) (placed s at end depth order (i .0))
+      rw (i .1) (placed s at end depth (i .0))
 
   pub group-level : {a : Avp} → checked dictionary s at end depth ≡ Group a → depth < 4
   group-level e =

@@ -54,12 +54,6 @@ heldBy depth vendor code flags start size = Holds (record {
 unfoldable pub isCut : ℕ → ℕ → ℕ → Bool
 isCut left header size = ltb size header || ltb left (padded size)
 
--- an AVP that passed check 2
-pub record Framed (s : List ℕ) (at end : ℕ) : Type 0 where
-  pub eight : at + 8 ≤ end
-  pub header : headerOf (flagV (flagsAt s at)) ≤ lengthAt s at
-  pub fits : at + padded (lengthAt s at) ≤ end
-
 -- where a walk stands: in a list at a depth, with this many AVPs before
 pub record Ready (s : List ℕ) (at end depth count : ℕ) : Type 0 where
   pub place : InList s at end

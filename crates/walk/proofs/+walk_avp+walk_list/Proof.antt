@@ -71,7 +71,7 @@ walk-avp-returns : (t : ℕ) → walk-avp-lts.Need-returns (
 walk-avp-returns t c =
     let st = c .before .before in
     let a = st .args in
-    fault-walked (a .s .now) (a .at) (a .end) (a .depth) (st .pre .1 .place .order) (a .count) (a .log .now) _
+    fault-walked (a .s .now) (a .at) (a .end) (a .depth) (a .count) (a .log .now) _
     (λ n. avp-many _ _ _ _ _ _ _ (c .if1 .taken))
 
 walk-avp-check-requires : (t : ℕ) → walk-avp-lts.Need-check-requires (
@@ -232,7 +232,7 @@ walk-avp-add-walk-list t c =
     let st = k .before .before .before in
     let a = st .args in
     let e = sym (k .check .ensures) ∙ g .c3 .given .1 in
-    let p = group-placed (a .s .now) (a .at) (a .end) (a .depth) (st .pre .1 .place .order) e in
+    let p = group-placed (a .s .now) (a .at) (a .end) (a .depth) e in
     omega (arith, p, st .pre .1 .place)
 
 walk-avp-add-walk-list-2 : (t : ℕ) → walk-avp-lts.Need-add-walk-list-2 (
@@ -281,8 +281,8 @@ walk-avp-walk-list-requires t c κs =
     let st = k .before .before .before in
     let a = st .args in
     let e = sym (k .check .ensures) ∙ g .c3 .given .1 in
-    let p = group-placed (a .s .now) (a .at) (a .end) (a .depth) (st .pre .1 .place .order) e in
-    let l = group-level (a .s .now) (a .at) (a .end) (a .depth) (st .pre .1 .place .order) e in
+    let p = group-placed (a .s .now) (a .at) (a .end) (a .depth) e in
+    let l = group-level (a .s .now) (a .at) (a .end) (a .depth) e in
     let few = k .before .if1 .left in
     let place = st .pre .1 .place in (
       omega (arith, l, st .pre .0),
@@ -333,7 +333,7 @@ walk-avp-returns-2 t c =
     let k = c .before .before .before in
     let st = k .before .before .before in
     let a = st .args in
-    fault-walked (a .s .now) (a .at) (a .end) (a .depth) (st .pre .1 .place .order) (a .count) (a .log .now) _
+    fault-walked (a .s .now) (a .at) (a .end) (a .depth) (a .count) (a .log .now) _
     (λ n. avp-fault _ _ _ _ _ _ _ (k .before .if1 .left) (sym (k .check .ensures) ∙ c .before .c .given .1))
 
 walk-avp-returns-3 : (t : ℕ) → walk-avp-lts.Need-returns-3 (
@@ -355,7 +355,7 @@ walk-avp-returns-3 t c =
     let st = k .before .before .before in
     let a = st .args in
     rw (c .next-after .ensures)
-    (plain-walked (a .s .now) (a .at) (a .end) (a .depth) (st .pre .1 .place .order) (a .count) (a .log .now) (k .before .if1 .left)
+    (plain-walked (a .s .now) (a .at) (a .end) (a .depth) (a .count) (a .log .now) (k .before .if1 .left)
     _ (p .put .ensures) (sym (k .check .ensures) ∙ g .c2 .given .1))
 
 walk-avp-returns-4 : (t : ℕ) → walk-avp-lts.Need-returns-4 (
@@ -378,7 +378,7 @@ walk-avp-returns-4 t c =
     let st = k .before .before .before in
     let a = st .args in
     rw (c .step-to .ensures, c .before .next-after2 .ensures)
-    (group-walked (a .s .now) (a .at) (a .end) (a .depth) (st .pre .1 .place .order) (a .count) (a .log .now) (k .before .if1 .left)
+    (group-walked (a .s .now) (a .at) (a .end) (a .depth) (a .count) (a .log .now) (k .before .if1 .left)
     _ (w .put2 .ensures) (sym (k .check .ensures) ∙ g .c3 .given .1) _ _ (l .walk-list .ensures))
 
 abbrev walk-list-Inv-loop : walk-list-lts.InvT-loop

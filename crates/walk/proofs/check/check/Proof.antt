@@ -18,8 +18,8 @@ judged-requires c κs =
     let st = f .before .before in
     let a = st .args in
     let p = st .pre in
-    let h = holds-framed (a .s .now) (a .at) (a .end) (a .depth) (p .order) (sym (c .before .framed2 .given .1) ∙ f .framed .ensures) in
-    omega arith
+    let h = holds-framed (a .s .now) (a .at) (a .end) (a .depth) (sym (c .before .framed2 .given .1) ∙ f .framed .ensures) in
+    omega (arith, h, p)
 
 enum-known-framed-2 : tie.Need-enum-known-framed-2
 enum-known-framed-2 c = search needs

@@ -1,0 +1,6 @@
+-- Two accepted commands mean the same exactly when they agree.
+pub mod Depths
+pub mod Paddings
+pub mod Places
+pub mod Alike
+pub mod Agreement

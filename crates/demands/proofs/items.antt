@@ -1,0 +1,5 @@
+-- AVPs in walk order with their octets.
+pub mod Items
+pub mod Trees
+pub mod Sequences
+pub mod Lists

@@ -1,0 +1,4 @@
+-- Octets and numbers.
+pub mod Numbers
+pub mod Digits
+pub mod Flags

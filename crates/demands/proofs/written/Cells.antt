@@ -1,0 +1,81 @@
+-- The AVPs that a walk gives over the octets of items have the items' cells, and a walk that is whole met no limit.
+use mathlib.Core.Path.{_≡_, refl, sym, ap, _∙_}
+use mathlib.Core.Bool.{cond}
+use mathlib.Core.List.{List, [], _∷_, _++_, map}
+use Prim.Native.Nat.{ℕ, _+_, _≤_}
+use native.Mathlib.Omega.{arith}
+use borrow.Author.Tests.{leb-false}
+use lib.Dec.{leb}
+use lib.ListN.{length, take, drop}
+use lib.Seq.{take-at}
+use Rattle.rules.specs.declared.Avp.{Avp}
+use Rattle.rules.specs.declared.Verdict.{Verdict}
+use Rattle.rules.specs.Avp.{headerOf}
+use Rattle.rules.specs.Dictionary.{Entry}
+use Rattle.rules.specs.Walk.{mostAvps, Walked, whole, stopped, after}
+use Rattle.rules.specs.Meaning.{cellOf}
+use Rattle.rules.specs.Writer.{hasVendor, avpHeader}
+use Rattle.rules.proofs.Walk.{by-cases}
+use Rattle.demands.proofs.items.Items.{Item, cellIn, octetsOf, step, avpOf, avpsAt, All, Fit, judged}
+use Rattle.demands.proofs.octets.Numbers.{drop-on}
+use Rattle.demands.proofs.items.Trees.{isGroupCell}
+use Rattle.demands.proofs.items.Sequences.{nil-of, length-header, front-item, past-item, avps-nil, avps-cons}
+use Rattle.demands.proofs.written.Judged.{by-outcome, contentsOf, judged-many, judged-refused, judged-pass, judged-nil}
+
+-- a walk that stopped is not whole
+pub never-whole : {C : Type 0} {xs ys : List Avp} {v : Verdict} → stopped xs v ≡ whole ys → C
+never-whole e = let z : _≡_ {A = ℕ} 0 1 = cc in absurd (omega arith)
+
+pub after-whole : (xs zs : List Avp) (w : Walked) → after xs w ≡ whole zs
+    → (ys : List Avp) × (w ≡ whole ys) × (zs ≡ xs ++ ys)
+after-whole xs zs (whole ys) e = (ys, refl, cc)
+after-whole xs zs (stopped ys v) e = never-whole e
+
+module _ (dict : List Entry) (s : List ℕ) where
+  -- the data of an AVP that is no read group are its octets; a read group has none
+  cell-of : (x : Item) (tail : List ℕ) (at : ℕ) → Fit dict x
+      → drop at s ≡ avpHeader (x .cell) ++ (x .cell .octets ++ tail) → cellOf dict s (avpOf at x) ≡ x .cell
+  cell-of x tail at f e =
+      let c = x .cell in
+      let h = headerOf (hasVendor c) in
+      let d : drop (at + h) s ≡ c .octets ++ tail = drop-on s (avpHeader c) _ at (at + h) (rw (length-header c)) e in
+      let o : cond (isGroupCell dict c) [] (take (c .length) (drop (at + h) s)) ≡ c .octets =
+      by-cases (isGroupCell dict c)
+      (λ g. rw g (sym (nil-of _ (f .data-is ∙ rw g))))
+      (λ g. rw g (ap (take (c .length)) d ∙ take-at (c .octets) tail (c .length) (f .data-is ∙ rw g))) in
+      rw o
+
+  pub cells-of : (xs : List Item) (post : List ℕ) (at : ℕ) → All (Fit dict) xs → drop at s ≡ octetsOf xs ++ post
+      → map (cellOf dict s) (avpsAt at xs) ≡ map cellIn xs
+  cells-of [] post at f e = ap (map (cellOf dict s)) (avps-nil at)
+  cells-of (x ∷ xs) post at f e =
+      let d = front-item x xs s post at e in
+      let ih = cells-of xs post (at + step x) (f .1) (past-item x s _ at d) in
+      ap (map (cellOf dict s)) (avps-cons at x xs) ∙ rw (cell-of x _ at (f .0) d, ih)
+
+  -- a walk that is whole gave each item's AVP, and no more than 256
+  pub record Within (count at : ℕ) (xs : List Item) (avps : List Avp) : Type 0 where
+    pub avps-are : avps ≡ avpsAt at xs
+    pub few : count + length xs ≤ mostAvps
+
+  pub within : (xs : List Item) (count at : ℕ) (avps : List Avp) → count ≤ mostAvps
+      → judged dict s count at xs ≡ whole avps
+      → Within count at xs avps
+  within [] count at avps h e =
+      let z : whole [] ≡ whole avps = sym (judged-nil dict s count at) ∙ e in
+      let y : [] ≡ avps = cc in
+      record { avps-are = sym y ∙ sym (avps-nil at); few = omega arith }
+  within (x ∷ xs) count at avps h e =
+      by-cases (leb mostAvps count)
+      (λ m. never-whole (sym (judged-many dict s count at x xs m) ∙ e))
+      (λ m. by-outcome (contentsOf dict s at x)
+      (λ o.
+      let i =
+      after-whole (avpOf at x ∷ []) avps (judged dict s (count + 1) (at + step x) xs)
+      (sym (judged-pass dict s count at x xs m o) ∙ e) in
+      let w = within xs (count + 1) (at + step x) (i .0) (omega (arith, leb-false 256 count m)) (i .1) in
+      record {
+        avps-are = i .2 ∙ ap (λ (l : List Avp). avpOf at x ∷ l) (w .avps-are) ∙ sym (avps-cons at x xs);
+        few = omega (arith, w .few);
+      })
+      (λ v o. never-whole (sym (judged-refused dict s count at x xs m o) ∙ e)))
