@@ -1,11 +1,11 @@
 -- What check 2 tells of an AVP that passes it, and check 2 by the fields that are read from the rest of the list.
 use mathlib.Core.Path.{_≡_, refl, sym, ap, _∙_}
-use mathlib.Core.Bool.{Bool, true, false, cond}
+use mathlib.Core.Bool.{Bool, true, false, _||_}
 use mathlib.Core.List.{List}
 use Prim.Native.Nat.{ℕ, _+_, _-_, _≤_, _<_}
 use native.Mathlib.Nat.{add-zero}
 use native.Mathlib.Omega.{arith}
-use borrow.Author.Tests.{lt-ltb, le-ltb, ltb-true, ltb-false}
+use borrow.Author.Tests.{ltb-true, ltb-false}
 use lib.Dec.{ltb}
 use lib.ListN.{length, getD, take, drop, length-drop}
 use lib.Seq.{length-take-le, getD-take, getD-drop}
@@ -15,7 +15,8 @@ use Rattle.rules.specs.declared.Outcome.{Outcome}
 use Rattle.rules.specs.declared.Outcome.the-variants.{Pass, Refused}
 use Rattle.rules.specs.declared.Checked.the-variants.{Fault}
 use Rattle.rules.specs.Octets.{numberAt, padded}
-use Rattle.rules.specs.Avp.{codeAt, flagsAt, flagV, flagM, flagP, lengthAt, avpAt}
+use Rattle.rules.specs.Verdict.{verdict, refused, refuseIf}
+use Rattle.rules.specs.Avp.{codeAt, flagsAt, flagV, lengthAt, avpAt}
 use Rattle.rules.specs.Dictionary.{dictionary}
 use Rattle.rules.specs.Walk.{framedBy, framing, checkedAvp, checked}
 use Rattle.rules.proofs.Octets.{numberAt-part}
@@ -24,7 +25,26 @@ use Rattle.rules.proofs.Passed.{Framed, framed}
 use Rattle.rules.proofs.Walk.{by-cases, framing-left, framing-plain, framing-vendor-left, framing-vendor, checked-frame}
 use Rattle.walk.specs.declared.frame.Frame.{Frame}
 use Rattle.walk.specs.declared.frame.Frame.the-variants.{Holds, Broken}
-use Rattle.walk.specs.Promise.{InList, frameOf, broken, heldBy, isCut}
+use Rattle.walk.specs.Promise.{InList, frameOf, misfit, avpBy}
+
+-- ---- the length field
+
+refuse-either : (b c : Bool) (o : Outcome) → refuseIf b o (refuseIf c o Pass) ≡ refuseIf (b || c) o Pass
+refuse-either true c o = refl
+refuse-either false c o = refl
+
+framedBy-misfit : (at left header size vendor code : ℕ) {b : Bool} → misfit left header size ≡ b
+    → framedBy at left header size vendor code ≡ refuseIf b (refused 5014 at vendor code) Pass
+unfolding framedBy
+framedBy-misfit at left header size vendor code e =
+    refuse-either (ltb size header) (ltb left (padded size)) (refused 5014 at vendor code)
+    ∙ ap (λ (b : Bool). refuseIf b (refused 5014 at vendor code) Pass) e
+
+pub fit-header : (left header size : ℕ) → misfit left header size ≡ false → header ≤ size
+fit-header left header size e =
+    by-cases (ltb size header)
+    (λ h. let f : true ≡ false = rw h at e in let z : _≡_ {A = ℕ} 0 1 = cc in absurd (omega arith))
+    (λ h. ltb-false _ _ h)
 
 -- ---- what check 2 handed back
 
@@ -50,48 +70,6 @@ module _ (s : List ℕ) (at end depth : ℕ) where
   pub broken-checked : {v : Verdict} → Broken v ≡ frameOf (framing s at end) (avpAt s at depth) → checked dictionary s at end depth ≡ Fault v
   broken-checked {v} e = checked-frame dictionary s at end depth (broken-is (framing s at end) v (avpAt s at depth) e)
 
--- ---- the length field
-
-pub cut-short : (left header size : ℕ) → size < header → true ≡ isCut left header size
-unfolding isCut
-cut-short left header size h = rw (lt-ltb size header h)
-
-pub cut-long : (left header size : ℕ) → header ≤ size → ltb left (padded size) ≡ isCut left header size
-unfolding isCut
-cut-long left header size h = rw (le-ltb size header h)
-
-pub uncut : (left header size : ℕ) → isCut left header size ≡ false → header ≤ size
-unfolding isCut
-uncut left header size e =
-    by-cases (ltb size header)
-    (λ h. let z : _≡_ {A = ℕ} 0 1 = cc (rw h at e) in absurd (omega arith))
-    (λ h. ltb-false size header h)
-
-abbrev avpBy : ℕ → ℕ → ℕ → ℕ → ℕ → ℕ → ℕ → Avp
-avpBy at depth header vendor code flags size = record {
-  depth = depth;
-  vendor = vendor;
-  code = code;
-  m = flagM flags;
-  p = flagP flags;
-  start = at + header;
-  length = size - header;
-}
-
--- what check 2 hands back, by the fields of the header
-abbrev pub frameBy : ℕ → ℕ → ℕ → ℕ → ℕ → ℕ → ℕ → ℕ → Frame
-frameBy at left depth header vendor code flags size =
-    cond (isCut left header size) (broken at vendor code) (heldBy depth vendor code flags (at + header) (size - header))
-
-by-length : (at left depth header vendor code flags size : ℕ)
-    → frameBy at left depth header vendor code flags size
-    ≡ frameOf (framedBy at left header size vendor code) (avpBy at depth header vendor code flags size)
-unfolding isCut framedBy
-by-length at left depth header vendor code flags size =
-    by-cases (ltb size header)
-    (λ h. rw h)
-    (λ h. by-cases (ltb left (padded size)) (λ k. rw (h, k)) (λ k. rw (h, k)))
-
 -- ---- the fields of an AVP, read from the rest of its list
 
 module _ (s : List ℕ) (at end : ℕ) (place : InList s at end) where
@@ -116,37 +94,42 @@ module _ (s : List ℕ) (at end : ℕ) (place : InList s at end) where
     abbrev frameAt : Frame
     frameAt = frameOf (framing s at end) (avpAt s at depth)
 
-    pub read-left : length restOf < 8 → broken at 0 0 ≡ frameAt
+    pub read-left : length restOf < 8 → Broken (verdict 5014 at 0 0) ≡ frameAt
     read-left h = rw (framing-left s at end (rw rest-left at h))
 
     module _ (eight : 8 ≤ length restOf) {code : ℕ} (codeIs : code ≡ numberAt 4 restOf 0) where
       left : 8 ≤ end - at
       left = rw rest-left at eight
 
-      pub read-vendor-left : flagV (getD restOf 4 0) ≡ true → length restOf < 12 → broken at 0 code ≡ frameAt
+      pub read-vendor-left : flagV (getD restOf 4 0) ≡ true → length restOf < 12 → Broken (verdict 5014 at 0 code) ≡ frameAt
       read-vendor-left v h =
           rw (codeIs, rest-code left, framing-vendor-left s at end left (rw (rest-flags left) at v) (rw rest-left at h))
 
-      -- the header's size, with V or without, is an argument
-      read-by : {size : ℕ} → size ≡ numberAt 3 restOf 5 → (header vendor : ℕ)
-          → framing s at end ≡ framedBy at (end - at) header (lengthAt s at) vendor (codeAt s at)
-          → avpAt s at depth ≡ avpBy at depth header vendor (codeAt s at) (flagsAt s at) (lengthAt s at)
-          → frameBy at (length restOf) depth header vendor code (getD restOf 4 0) size ≡ frameAt
-      read-by sizeIs header vendor f a =
-          rw (codeIs, sizeIs, rest-left, rest-code left, rest-number 3 5 left, rest-flags left, f, a)
-          (by-length at (end - at) depth header vendor (codeAt s at) (flagsAt s at) (lengthAt s at))
+      module _ {size : ℕ} (sizeIs : size ≡ numberAt 3 restOf 5) where
+        -- both answers by a header of this size, with the length field tested
+        abbrev By : ℕ → ℕ → Type 0
+        By header vendor =
+            (misfit (length restOf) header size ≡ true → Broken (verdict 5014 at vendor code) ≡ frameAt)
+            × (misfit (length restOf) header size ≡ false → Holds (avpBy at depth header vendor code (getD restOf 4 0) size) ≡ frameAt)
 
-      pub read-plain : {size : ℕ} → size ≡ numberAt 3 restOf 5 → flagV (getD restOf 4 0) ≡ false
-          → frameBy at (length restOf) depth 8 0 code (getD restOf 4 0) size ≡ frameAt
-      read-plain sizeIs v =
-          let w = rw (rest-flags left) at v in
-          read-by sizeIs 8 0 (framing-plain s at end left w) (avpAt-plain s at depth w)
+        read-by : (header vendor : ℕ)
+            → framing s at end ≡ framedBy at (end - at) header (lengthAt s at) vendor (codeAt s at)
+            → avpAt s at depth ≡ avpBy at depth header vendor (codeAt s at) (flagsAt s at) (lengthAt s at)
+            → By header vendor
+        read-by header vendor f a =
+            rw (codeIs, sizeIs, rest-left, rest-code left, rest-number 3 5 left, rest-flags left, f, a) (
+              λ h. rw (framedBy-misfit at (end - at) header (lengthAt s at) vendor (codeAt s at) h),
+              λ h. rw (framedBy-misfit at (end - at) header (lengthAt s at) vendor (codeAt s at) h),
+            )
 
-      pub read-vendor : {size : ℕ} → size ≡ numberAt 3 restOf 5 → flagV (getD restOf 4 0) ≡ true → 12 ≤ length restOf
-          → {vendor : ℕ} → vendor ≡ numberAt 4 restOf 8
-          → frameBy at (length restOf) depth 12 vendor code (getD restOf 4 0) size ≡ frameAt
-      read-vendor sizeIs v h vendorIs =
-          let w = rw (rest-flags left) at v in
-          let k = rw rest-left at h in
-          rw (vendorIs, rest-number 4 8 k)
-          (read-by sizeIs 12 (numberAt 4 s (at + 8)) (framing-vendor s at end k w) (avpAt-vendor s at depth w))
+        pub read-plain : flagV (getD restOf 4 0) ≡ false → By 8 0
+        read-plain v =
+            let w = rw (rest-flags left) at v in
+            read-by 8 0 (framing-plain s at end left w) (avpAt-plain s at depth w)
+
+        pub read-vendor : flagV (getD restOf 4 0) ≡ true → 12 ≤ length restOf → {vendor : ℕ} → vendor ≡ numberAt 4 restOf 8 → By 12 vendor
+        read-vendor v h vendorIs =
+            let w = rw (rest-flags left) at v in
+            let k = rw rest-left at h in
+            rw (vendorIs, rest-number 4 8 k)
+            (read-by 12 (numberAt 4 s (at + 8)) (framing-vendor s at end k w) (avpAt-vendor s at depth w))

@@ -35,24 +35,21 @@ abbrev pub frameOf : Outcome → Avp → Frame
 frameOf Pass a = Holds a
 frameOf (Refused v) a = Broken v
 
-abbrev pub broken : ℕ → ℕ → ℕ → Frame
-broken place vendor code = Broken (verdict 5014 place vendor code)
+-- a length field below the header's octets, or with padding beyond what is left
+abbrev pub misfit : ℕ → ℕ → ℕ → Bool
+misfit left header size = ltb size header || ltb left (padded size)
 
--- the AVP by the fields of its header and its data
-abbrev pub heldBy : ℕ → ℕ → ℕ → ℕ → ℕ → ℕ → Frame
-heldBy depth vendor code flags start size = Holds (record {
+-- the AVP at a place by the fields of its header
+abbrev pub avpBy : ℕ → ℕ → ℕ → ℕ → ℕ → ℕ → ℕ → Avp
+avpBy at depth header vendor code flags size = record {
   depth = depth;
   vendor = vendor;
   code = code;
   m = flagM flags;
   p = flagP flags;
-  start = start;
-  length = size;
-})
-
--- check 2, the length field: below the header's octets, or with padding beyond what is left
-unfoldable pub isCut : ℕ → ℕ → ℕ → Bool
-isCut left header size = ltb size header || ltb left (padded size)
+  start = at + header;
+  length = size - header;
+}
 
 -- where a walk stands: in a list at a depth, with this many AVPs before
 pub record Ready (s : List ℕ) (at end depth count : ℕ) : Type 0 where

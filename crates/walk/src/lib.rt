@@ -1,7 +1,6 @@
 // 01, Order of checks, Walk: the AVPs of a command in walk order, written into a lent log, or the first fault. The list walk
 // and the AVP walk call each other; the depth that is left falls at each group.
-ghost use mathlib.Core.Path.{_≡_};
-ghost use Rattle.walk.specs.Promise.{stepTo, Ready, AvpWalked, ListWalked, CommandWalked};
+ghost use Rattle.walk.specs.Promise.{Ready, AvpWalked, ListWalked, CommandWalked};
 use rules::Checked;
 use rules::Verdict;
 
@@ -18,16 +17,6 @@ pub enum Walk {
 enum Step {
     On { count: usize, next: usize },
     Halted(Verdict),
-}
-
-// A step by the walk of a group's list.
-fn step_to(next: usize, walk: Walk) -> Step
-    ensures { λ r. ⌜ r ≡ stepTo next walk ⌝ }
-{
-    match walk {
-        Walk::Whole(count) => Step::On { count, next },
-        Walk::Stopped(v) => Step::Halted(v),
-    }
 }
 
 // One AVP of the list that ends at `end`, with `count` AVPs in the log already.
@@ -65,7 +54,13 @@ fn walk_avp(
             let start = a.start as usize;
             let length = a.length as usize;
             let members = walk_list(s, start, start + length, depth + 1, count + 1, log);
-            step_to(frame::next_after(a), members)
+            match members {
+                Walk::Whole(c) => Step::On {
+                    count: c,
+                    next: frame::next_after(a),
+                },
+                Walk::Stopped(v) => Step::Halted(v),
+            }
         }
     }
 }

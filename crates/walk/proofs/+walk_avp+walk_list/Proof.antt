@@ -18,7 +18,6 @@ use Rattle.walk.proofs.+walk_avp+walk_list.Lts-walk_list as walk-list-l
 use Rattle.log.proofs.put.Reads as put-reads
 use Rattle.walk.proofs.check.check.Reads as check-reads
 use Rattle.walk.proofs.frame.next_after.Reads as next-after-reads
-use Rattle.walk.proofs.step_to.Reads as step-to-reads
 use Rattle.walk.proofs.+walk_avp+walk_list.{statement}
 use Rattle.walk.proofs.+walk_avp+walk_list.Tie.{close}
 
@@ -42,7 +41,7 @@ abbrev walk-list-below : ℕ → In 2 walk-list-kinds.ps
 walk-list-below t =
     and 2 walk-list-kinds.ps (falls 2 walk-list-kinds.ps _<_ μ-walk-list t) walk-list.Pre
 
-walk-avp-cast-t15 : (t : ℕ) → walk-avp-lts.Need-cast-t15 (
+walk-avp-cast-t17 : (t : ℕ) → walk-avp-lts.Need-cast-t17 (
   check-reads.Asked,
   check-reads.Learnt,
   put-reads.Asked,
@@ -51,10 +50,8 @@ walk-avp-cast-t15 : (t : ℕ) → walk-avp-lts.Need-cast-t15 (
   next-after-reads.Learnt,
   walk-list-below t,
   walk-list.Post,
-  step-to-reads.Asked,
-  step-to-reads.Learnt,
 ) (walk-avp-at t) walk-avp.Post
-walk-avp-cast-t15 t c = omega arith
+walk-avp-cast-t17 t c = omega arith
 
 walk-avp-returns : (t : ℕ) → walk-avp-lts.Need-returns (
   check-reads.Asked,
@@ -65,8 +62,6 @@ walk-avp-returns : (t : ℕ) → walk-avp-lts.Need-returns (
   next-after-reads.Learnt,
   walk-list-below t,
   walk-list.Post,
-  step-to-reads.Asked,
-  step-to-reads.Learnt,
 ) (walk-avp-at t) walk-avp.Post
 walk-avp-returns t c =
     let st = c .before .before in
@@ -83,8 +78,6 @@ walk-avp-check-requires : (t : ℕ) → walk-avp-lts.Need-check-requires (
   next-after-reads.Learnt,
   walk-list-below t,
   walk-list.Post,
-  step-to-reads.Asked,
-  step-to-reads.Learnt,
 ) (walk-avp-at t) walk-avp.Post
 walk-avp-check-requires t c κs = c .before .before .pre .1 .place
 
@@ -97,8 +90,6 @@ walk-avp-enum-known-c : (t : ℕ) → walk-avp-lts.Need-enum-known-c (
   next-after-reads.Learnt,
   walk-list-below t,
   walk-list.Post,
-  step-to-reads.Asked,
-  step-to-reads.Learnt,
 ) (walk-avp-at t) walk-avp.Post
 walk-avp-enum-known-c t c = search needs
 
@@ -111,8 +102,6 @@ walk-avp-enum-known-c-2 : (t : ℕ) → walk-avp-lts.Need-enum-known-c-2 (
   next-after-reads.Learnt,
   walk-list-below t,
   walk-list.Post,
-  step-to-reads.Asked,
-  step-to-reads.Learnt,
 ) (walk-avp-at t) walk-avp.Post
 walk-avp-enum-known-c-2 t c = search needs
 
@@ -125,12 +114,10 @@ walk-avp-put-requires : (t : ℕ) → walk-avp-lts.Need-put-requires (
   next-after-reads.Learnt,
   walk-list-below t,
   walk-list.Post,
-  step-to-reads.Asked,
-  step-to-reads.Learnt,
 ) (walk-avp-at t) walk-avp.Post
 walk-avp-put-requires t c κs = search needs
 
-walk-avp-add-t20 : (t : ℕ) → walk-avp-lts.Need-add-t20 (
+walk-avp-add-t22 : (t : ℕ) → walk-avp-lts.Need-add-t22 (
   check-reads.Asked,
   check-reads.Learnt,
   put-reads.Asked,
@@ -139,10 +126,8 @@ walk-avp-add-t20 : (t : ℕ) → walk-avp-lts.Need-add-t20 (
   next-after-reads.Learnt,
   walk-list-below t,
   walk-list.Post,
-  step-to-reads.Asked,
-  step-to-reads.Learnt,
 ) (walk-avp-at t) walk-avp.Post
-walk-avp-add-t20 t c = omega arith
+walk-avp-add-t22 t c = omega arith
 
 walk-avp-next-after-requires : (t : ℕ) → walk-avp-lts.Need-next-after-requires (
   check-reads.Asked,
@@ -153,8 +138,6 @@ walk-avp-next-after-requires : (t : ℕ) → walk-avp-lts.Need-next-after-requir
   next-after-reads.Learnt,
   walk-list-below t,
   walk-list.Post,
-  step-to-reads.Asked,
-  step-to-reads.Learnt,
 ) (walk-avp-at t) walk-avp.Post
 walk-avp-next-after-requires t c κs = search needs
 
@@ -167,8 +150,6 @@ walk-avp-enum-known-c-3 : (t : ℕ) → walk-avp-lts.Need-enum-known-c-3 (
   next-after-reads.Learnt,
   walk-list-below t,
   walk-list.Post,
-  step-to-reads.Asked,
-  step-to-reads.Learnt,
 ) (walk-avp-at t) walk-avp.Post
 walk-avp-enum-known-c-3 t c = search needs
 
@@ -181,8 +162,6 @@ walk-avp-put-requires-2 : (t : ℕ) → walk-avp-lts.Need-put-requires-2 (
   next-after-reads.Learnt,
   walk-list-below t,
   walk-list.Post,
-  step-to-reads.Asked,
-  step-to-reads.Learnt,
 ) (walk-avp-at t) walk-avp.Post
 walk-avp-put-requires-2 t c κs = search needs
 
@@ -195,8 +174,6 @@ walk-avp-cast-start : (t : ℕ) → walk-avp-lts.Need-cast-start (
   next-after-reads.Learnt,
   walk-list-below t,
   walk-list.Post,
-  step-to-reads.Asked,
-  step-to-reads.Learnt,
 ) (walk-avp-at t) walk-avp.Post
 walk-avp-cast-start t c = search needs
 
@@ -209,8 +186,6 @@ walk-avp-cast-length : (t : ℕ) → walk-avp-lts.Need-cast-length (
   next-after-reads.Learnt,
   walk-list-below t,
   walk-list.Post,
-  step-to-reads.Asked,
-  step-to-reads.Learnt,
 ) (walk-avp-at t) walk-avp.Post
 walk-avp-cast-length t c = search needs
 
@@ -223,8 +198,6 @@ walk-avp-add-walk-list : (t : ℕ) → walk-avp-lts.Need-add-walk-list (
   next-after-reads.Learnt,
   walk-list-below t,
   walk-list.Post,
-  step-to-reads.Asked,
-  step-to-reads.Learnt,
 ) (walk-avp-at t) walk-avp.Post
 walk-avp-add-walk-list t c =
     let g = c .before .before .before .before .before in
@@ -244,8 +217,6 @@ walk-avp-add-walk-list-2 : (t : ℕ) → walk-avp-lts.Need-add-walk-list-2 (
   next-after-reads.Learnt,
   walk-list-below t,
   walk-list.Post,
-  step-to-reads.Asked,
-  step-to-reads.Learnt,
 ) (walk-avp-at t) walk-avp.Post
 walk-avp-add-walk-list-2 t c = omega (arith, c .before .before .before .before .before .before .before .before .before .before .pre .1)
 
@@ -258,8 +229,6 @@ walk-avp-add-walk-list-3 : (t : ℕ) → walk-avp-lts.Need-add-walk-list-3 (
   next-after-reads.Learnt,
   walk-list-below t,
   walk-list.Post,
-  step-to-reads.Asked,
-  step-to-reads.Learnt,
 ) (walk-avp-at t) walk-avp.Post
 walk-avp-add-walk-list-3 t c = omega (arith, c .before .before .before .before .before .before .before .before .if1 .left)
 
@@ -272,8 +241,6 @@ walk-avp-walk-list-requires : (t : ℕ) → walk-avp-lts.Need-walk-list-requires
   next-after-reads.Learnt,
   walk-list-below t,
   walk-list.Post,
-  step-to-reads.Asked,
-  step-to-reads.Learnt,
 ) (walk-avp-at t) walk-avp.Post
 walk-avp-walk-list-requires t c κs =
     let g = c .before .before .before .before .before .before in
@@ -289,6 +256,18 @@ walk-avp-walk-list-requires t c κs =
       record { place = omega (arith, p, place); level = omega (arith, l); few = omega (arith, few) },
     )
 
+walk-avp-enum-known-members : (t : ℕ) → walk-avp-lts.Need-enum-known-members (
+  check-reads.Asked,
+  check-reads.Learnt,
+  put-reads.Asked,
+  put-reads.Learnt,
+  next-after-reads.Asked,
+  next-after-reads.Learnt,
+  walk-list-below t,
+  walk-list.Post,
+) (walk-avp-at t) walk-avp.Post
+walk-avp-enum-known-members t c = search needs
+
 walk-avp-next-after-requires-2 : (t : ℕ) → walk-avp-lts.Need-next-after-requires-2 (
   check-reads.Asked,
   check-reads.Learnt,
@@ -298,12 +277,10 @@ walk-avp-next-after-requires-2 : (t : ℕ) → walk-avp-lts.Need-next-after-requ
   next-after-reads.Learnt,
   walk-list-below t,
   walk-list.Post,
-  step-to-reads.Asked,
-  step-to-reads.Learnt,
 ) (walk-avp-at t) walk-avp.Post
 walk-avp-next-after-requires-2 t c κs = search needs
 
-walk-avp-step-to-requires : (t : ℕ) → walk-avp-lts.Need-step-to-requires (
+walk-avp-enum-known-members-2 : (t : ℕ) → walk-avp-lts.Need-enum-known-members-2 (
   check-reads.Asked,
   check-reads.Learnt,
   put-reads.Asked,
@@ -312,10 +289,8 @@ walk-avp-step-to-requires : (t : ℕ) → walk-avp-lts.Need-step-to-requires (
   next-after-reads.Learnt,
   walk-list-below t,
   walk-list.Post,
-  step-to-reads.Asked,
-  step-to-reads.Learnt,
 ) (walk-avp-at t) walk-avp.Post
-walk-avp-step-to-requires t c κs = search needs
+walk-avp-enum-known-members-2 t c = search needs
 
 walk-avp-returns-2 : (t : ℕ) → walk-avp-lts.Need-returns-2 (
   check-reads.Asked,
@@ -326,8 +301,6 @@ walk-avp-returns-2 : (t : ℕ) → walk-avp-lts.Need-returns-2 (
   next-after-reads.Learnt,
   walk-list-below t,
   walk-list.Post,
-  step-to-reads.Asked,
-  step-to-reads.Learnt,
 ) (walk-avp-at t) walk-avp.Post
 walk-avp-returns-2 t c =
     let k = c .before .before .before in
@@ -345,8 +318,6 @@ walk-avp-returns-3 : (t : ℕ) → walk-avp-lts.Need-returns-3 (
   next-after-reads.Learnt,
   walk-list-below t,
   walk-list.Post,
-  step-to-reads.Asked,
-  step-to-reads.Learnt,
 ) (walk-avp-at t) walk-avp.Post
 walk-avp-returns-3 t c =
     let p = c .before in
@@ -367,19 +338,39 @@ walk-avp-returns-4 : (t : ℕ) → walk-avp-lts.Need-returns-4 (
   next-after-reads.Learnt,
   walk-list-below t,
   walk-list.Post,
-  step-to-reads.Asked,
-  step-to-reads.Learnt,
 ) (walk-avp-at t) walk-avp.Post
 walk-avp-returns-4 t c =
-    let l = c .before .before in
+    let m = c .before .before in
+    let l = m .before .before in
     let w = l .before .before .before .before in
     let g = w .before .before .before in
     let k = g .before .before in
     let st = k .before .before .before in
     let a = st .args in
-    rw (c .step-to .ensures, c .before .next-after2 .ensures)
+    rw (c .next-after2 .ensures)
     (group-walked (a .s .now) (a .at) (a .end) (a .depth) (a .count) (a .log .now) (k .before .if1 .left)
-    _ (w .put2 .ensures) (sym (k .check .ensures) ∙ g .c3 .given .1) _ _ (l .walk-list .ensures))
+    _ (w .put2 .ensures) (sym (k .check .ensures) ∙ g .c3 .given .1) _ _ (rw (m .members .given .1) at (l .walk-list .ensures)))
+
+walk-avp-returns-5 : (t : ℕ) → walk-avp-lts.Need-returns-5 (
+  check-reads.Asked,
+  check-reads.Learnt,
+  put-reads.Asked,
+  put-reads.Learnt,
+  next-after-reads.Asked,
+  next-after-reads.Learnt,
+  walk-list-below t,
+  walk-list.Post,
+) (walk-avp-at t) walk-avp.Post
+walk-avp-returns-5 t c =
+    let m = c .before in
+    let l = m .before .before in
+    let w = l .before .before .before .before in
+    let g = w .before .before .before in
+    let k = g .before .before in
+    let st = k .before .before .before in
+    let a = st .args in
+    group-walked (a .s .now) (a .at) (a .end) (a .depth) (a .count) (a .log .now) (k .before .if1 .left)
+    _ (w .put2 .ensures) (sym (k .check .ensures) ∙ g .c3 .given .1) _ _ (rw (m .members2 .given .1) at (l .walk-list .ensures))
 
 abbrev walk-list-Inv-loop : walk-list-lts.InvT-loop
 walk-list-Inv-loop s at end depth count log₀ place₀ met₀ log place met = Turn s at end depth count log₀ place met log
@@ -484,18 +475,16 @@ pub +walk-avp+walk-list-spec : {M : Type 1} → statement M
   next-after-reads.Learnt,
   walk-list-below t,
   walk-list.Post,
-  step-to-reads.Asked,
-  step-to-reads.Learnt,
 )
     (walk-avp-at t)
     walk-avp.Post
-    (walk-avp-cast-t15 t)
+    (walk-avp-cast-t17 t)
     (walk-avp-returns t)
     (walk-avp-check-requires t)
     (walk-avp-enum-known-c t)
     (walk-avp-enum-known-c-2 t)
     (walk-avp-put-requires t)
-    (walk-avp-add-t20 t)
+    (walk-avp-add-t22 t)
     (walk-avp-next-after-requires t)
     (walk-avp-enum-known-c-3 t)
     (walk-avp-put-requires-2 t)
@@ -505,11 +494,13 @@ pub +walk-avp+walk-list-spec : {M : Type 1} → statement M
     (walk-avp-add-walk-list-2 t)
     (walk-avp-add-walk-list-3 t)
     (walk-avp-walk-list-requires t)
+    (walk-avp-enum-known-members t)
     (walk-avp-next-after-requires-2 t)
-    (walk-avp-step-to-requires t)
+    (walk-avp-enum-known-members-2 t)
     (walk-avp-returns-2 t)
     (walk-avp-returns-3 t)
-    (walk-avp-returns-4 t))
+    (walk-avp-returns-4 t)
+    (walk-avp-returns-5 t))
     λ t. walk-list-lts.spec
     (walk-avp-below t, walk-avp.Post)
     (walk-list-at t)

@@ -1,17 +1,13 @@
 -- `walk::frame::framed` meets its contract.
 use borrow.Author.Needs.{needs}
-use mathlib.Core.Path.{_≡_, sym, _∙_}
+use mathlib.Core.Path.{sym, ap, _∙_}
+use Prim.Native.Nat.{_≤_}
+use native.Mathlib.Omega.{arith}
 use borrow.Author.Tests.{eq-eqb, ne-eqb}
-use lib.ListN.{length, getD}
-use Rattle.rules.specs.Avp.{avpAt}
-use Rattle.rules.specs.Walk.{framing}
-use Rattle.walk.specs.Promise.{frameOf}
-use Rattle.walk.proofs.Framing.{uncut, frameBy, restOf, read-left, read-plain, read-vendor-left, read-vendor}
+use Rattle.walk.specs.declared.frame.Frame.the-variants.{Holds, Broken}
+use Rattle.walk.proofs.Framing.{fit-header, read-left, read-plain, read-vendor-left, read-vendor}
 use Rattle.walk.proofs.frame.framed.Statement.{statement}
 use Rattle.walk.proofs.frame.framed.Tie as tie
-
-cast-place : tie.Need-cast-place
-cast-place c = search needs
 
 sub-rest : tie.Need-sub-rest
 sub-rest c = search needs
@@ -29,7 +25,7 @@ returns : tie.Need-returns
 returns c =
     let st = c .before .before .before .before in
     let a = st .args in
-    c .fault .ensures ∙ read-left (a .s .now) (a .at) (a .end) (st .pre) (a .depth) (c .before .if1 .taken)
+    ap Broken (c .fault .ensures) ∙ read-left (a .s .now) (a .at) (a .end) (st .pre) (a .depth) (c .before .if1 .taken)
 
 number4-requires : tie.Need-number4-requires
 number4-requires c κs = search needs
@@ -40,44 +36,44 @@ shared-slice-read-flags c = search needs
 number3-requires : tie.Need-number3-requires
 number3-requires c κs = search needs
 
-is-cut-requires : tie.Need-is-cut-requires
-is-cut-requires c κs = search needs
-
--- without V: what is handed back, by the length field
-plain : (c : tie.After-is-cut) →
-    let size = c .before .before in
-    let code = size .before .before in
-    let st = code .before .before .before .before in
-    let a = st .args in
-    frameBy (a .at) (length (restOf (a .s .now) (a .at) (a .end) (st .pre))) (a .depth) 8 0 (code .number4 .result)
-    (getD (restOf (a .s .now) (a .at) (a .end) (st .pre)) 4 0) (size .number3 .result)
-    ≡ frameOf (framing (a .s .now) (a .at) (a .end)) (avpAt (a .s .now) (a .at) (a .depth))
-plain c =
-    let size = c .before .before in
-    let code = size .before .before in
-    let eight = code .before in
-    let st = eight .before .before .before in
-    let a = st .args in
-    read-plain (a .s .now) (a .at) (a .end) (st .pre) (a .depth) (eight .if1 .left) (code .number4 .ensures .is)
-    (size .number3 .ensures .is) (ne-eqb _ _ (c .before .if2 .taken))
+misfits-requires : tie.Need-misfits-requires
+misfits-requires c κs = search needs
 
 fault-requires-2 : tie.Need-fault-requires-2
 fault-requires-2 c κs = search needs
 
 returns-2 : tie.Need-returns-2
-returns-2 c = c .fault2 .ensures ∙ (rw (sym (c .before .before .is-cut .ensures) ∙ c .before .if3 .taken) at (plain (c .before .before)))
+returns-2 c =
+    let q = c .before .before in
+    let v = q .before in
+    let size = v .before in
+    let code = size .before .before in
+    let eight = code .before in
+    let st = eight .before .before .before in
+    let a = st .args in
+    ap Broken (c .fault2 .ensures)
+    ∙ read-plain (a .s .now) (a .at) (a .end) (st .pre) (a .depth) (eight .if1 .left) (code .number4 .ensures .is)
+    (size .number3 .ensures .is) (ne-eqb _ _ (v .if2 .taken)) .0 (sym (q .misfits .ensures) ∙ c .before .if3 .taken)
 
-add-held : tie.Need-add-held
-add-held c = search needs
-
-sub-held : tie.Need-sub-held
-sub-held c = uncut _ _ _ (sym (c .before .is-cut .ensures) ∙ c .if3 .left)
-
-held-requires : tie.Need-held-requires
-held-requires c κs = search needs
+avp-by-requires : tie.Need-avp-by-requires
+avp-by-requires c κs =
+    let q = c .before in
+    let size = q .before .before in
+    let fit : 8 ≤ size .number3 .result = fit-header _ 8 (size .number3 .result) (sym (q .misfits .ensures) ∙ c .if3 .left) in
+    omega (arith, fit, size .number3 .ensures .below, size .before .before .before .before .before .before .pre)
 
 returns-3 : tie.Need-returns-3
-returns-3 c = c .held .ensures ∙ (rw (sym (c .before .before .is-cut .ensures) ∙ c .before .if3 .left) at (plain (c .before .before)))
+returns-3 c =
+    let q = c .before .before in
+    let v = q .before in
+    let size = v .before in
+    let code = size .before .before in
+    let eight = code .before in
+    let st = eight .before .before .before in
+    let a = st .args in
+    ap Holds (c .avp-by .ensures)
+    ∙ read-plain (a .s .now) (a .at) (a .end) (st .pre) (a .depth) (eight .if1 .left) (code .number4 .ensures .is)
+    (size .number3 .ensures .is) (ne-eqb _ _ (v .if2 .taken)) .1 (sym (q .misfits .ensures) ∙ c .before .if3 .left)
 
 fault-requires-3 : tie.Need-fault-requires-3
 fault-requires-3 c κs = search needs
@@ -89,59 +85,60 @@ returns-4 c =
     let eight = code .before in
     let st = eight .before .before .before in
     let a = st .args in
-    c .fault3 .ensures
+    ap Broken (c .fault3 .ensures)
     ∙ read-vendor-left (a .s .now) (a .at) (a .end) (st .pre) (a .depth) (eight .if1 .left) (code .number4 .ensures .is)
     (eq-eqb _ _ (v .if2 .left)) (c .before .if4 .taken)
 
 number4-requires-2 : tie.Need-number4-requires-2
 number4-requires-2 c κs = search needs
 
-is-cut-requires-2 : tie.Need-is-cut-requires-2
-is-cut-requires-2 c κs = search needs
+misfits-requires-2 : tie.Need-misfits-requires-2
+misfits-requires-2 c κs = search needs
 
--- with V
-vendored : (c : tie.After-is-cut2) →
-    let size = c .before .before .before .before in
-    let code = size .before .before in
-    let st = code .before .before .before .before in
-    let a = st .args in
-    frameBy (a .at) (length (restOf (a .s .now) (a .at) (a .end) (st .pre))) (a .depth) 12 (c .before .number42 .result)
-    (code .number4 .result) (getD (restOf (a .s .now) (a .at) (a .end) (st .pre)) 4 0) (size .number3 .result)
-    ≡ frameOf (framing (a .s .now) (a .at) (a .end)) (avpAt (a .s .now) (a .at) (a .depth))
-vendored c =
-    let twelve = c .before .before in
+fault-requires-4 : tie.Need-fault-requires-4
+fault-requires-4 c κs = search needs
+
+returns-5 : tie.Need-returns-5
+returns-5 c =
+    let q = c .before .before in
+    let vendor = q .before in
+    let twelve = vendor .before in
     let v = twelve .before in
     let size = v .before in
     let code = size .before .before in
     let eight = code .before in
     let st = eight .before .before .before in
     let a = st .args in
-    read-vendor (a .s .now) (a .at) (a .end) (st .pre) (a .depth) (eight .if1 .left) (code .number4 .ensures .is)
-    (size .number3 .ensures .is) (eq-eqb _ _ (v .if2 .left)) (twelve .if4 .left) (c .before .number42 .ensures .is)
+    ap Broken (c .fault4 .ensures)
+    ∙ read-vendor (a .s .now) (a .at) (a .end) (st .pre) (a .depth) (eight .if1 .left) (code .number4 .ensures .is)
+    (size .number3 .ensures .is) (eq-eqb _ _ (v .if2 .left)) (twelve .if4 .left) (vendor .number42 .ensures .is) .0 (sym (q .misfits2 .ensures) ∙ c .before .if5 .taken)
 
-fault-requires-4 : tie.Need-fault-requires-4
-fault-requires-4 c κs = search needs
-
-returns-5 : tie.Need-returns-5
-returns-5 c = c .fault4 .ensures ∙ (rw (sym (c .before .before .is-cut2 .ensures) ∙ c .before .if5 .taken) at (vendored (c .before .before)))
-
-add-held-2 : tie.Need-add-held-2
-add-held-2 c = search needs
-
-sub-held-2 : tie.Need-sub-held-2
-sub-held-2 c = uncut _ _ _ (sym (c .before .is-cut2 .ensures) ∙ c .if5 .left)
-
-held-requires-2 : tie.Need-held-requires-2
-held-requires-2 c κs = search needs
+avp-by-requires-2 : tie.Need-avp-by-requires-2
+avp-by-requires-2 c κs =
+    let q = c .before in
+    let size = q .before .before .before .before in
+    let fit : 12 ≤ size .number3 .result = fit-header _ 12 (size .number3 .result) (sym (q .misfits2 .ensures) ∙ c .if5 .left) in
+    omega (arith, fit, size .number3 .ensures .below, size .before .before .before .before .before .before .pre)
 
 returns-6 : tie.Need-returns-6
-returns-6 c = c .held2 .ensures ∙ (rw (sym (c .before .before .is-cut2 .ensures) ∙ c .before .if5 .left) at (vendored (c .before .before)))
+returns-6 c =
+    let q = c .before .before in
+    let vendor = q .before in
+    let twelve = vendor .before in
+    let v = twelve .before in
+    let size = v .before in
+    let code = size .before .before in
+    let eight = code .before in
+    let st = eight .before .before .before in
+    let a = st .args in
+    ap Holds (c .avp-by2 .ensures)
+    ∙ read-vendor (a .s .now) (a .at) (a .end) (st .pre) (a .depth) (eight .if1 .left) (code .number4 .ensures .is)
+    (size .number3 .ensures .is) (eq-eqb _ _ (v .if2 .left)) (twelve .if4 .left) (vendor .number42 .ensures .is) .1 (sym (q .misfits2 .ensures) ∙ c .before .if5 .left)
 
 pub framed-spec : {M : Type 1} → statement M
 framed-spec =
     tie.close
     (tie.spec
-    cast-place
     sub-rest
     part-rest-start
     part-rest-end
@@ -150,20 +147,16 @@ framed-spec =
     number4-requires
     shared-slice-read-flags
     number3-requires
-    is-cut-requires
+    misfits-requires
     fault-requires-2
     returns-2
-    add-held
-    sub-held
-    held-requires
+    avp-by-requires
     returns-3
     fault-requires-3
     returns-4
     number4-requires-2
-    is-cut-requires-2
+    misfits-requires-2
     fault-requires-4
     returns-5
-    add-held-2
-    sub-held-2
-    held-requires-2
+    avp-by-requires-2
     returns-6)
