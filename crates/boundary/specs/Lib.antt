@@ -1,3 +1,2 @@
--- The record as numbers, and what is read from them.
-pub mod Numbers
+-- What is read from a record as numbers.
 pub mod Parts

@@ -5,8 +5,6 @@ ghost use Rattle.reader.specs.Promise.{Judged};
 ghost use Rattle.boundary.specs.Parts.{IsRead, IsData, searchNumbers};
 use rules::Verdict;
 
-mod record;
-
 // A part of a slice, by its start and its length.
 #[repr(C)]
 pub struct Part {
@@ -28,7 +26,7 @@ pub extern "C" fn talazumir_read(s: &[u8], numbers: &mut [u32; 1799]) -> Verdict
     ensures { λ r. ⌜ IsRead (now (s .entry)) r (now (numbers .exit)) ⌝ }
 {
     let reading = reader::read(s);
-    record::put(numbers, reading.record);
+    numbers::put(numbers, reading.record);
     reading.verdict
 }
 
@@ -38,13 +36,13 @@ pub extern "C" fn talazumir_read(s: &[u8], numbers: &mut [u32; 1799]) -> Verdict
 pub extern "C" fn talazumir_data(numbers: &[u32; 1799], position: usize, s: &[u8]) -> Part
     ensures { λ r. ⌜ IsData (now (numbers .entry)) position (now (s .entry)) r ⌝ }
 {
-    if record::used(numbers) <= position {
+    if numbers::used(numbers) <= position {
         return Part {
             start: 0,
             length: 0,
         };
     }
-    let a = record::get(numbers, position);
+    let a = numbers::get(numbers, position);
     let start = a.start as usize;
     let length = a.length as usize;
     if s.len() < start + length {
@@ -61,10 +59,10 @@ pub extern "C" fn talazumir_data(numbers: &[u32; 1799], position: usize, s: &[u8
 pub extern "C" fn talazumir_search(numbers: &[u32; 1799], vendor: u32, code: u32) -> u32
     ensures { λ r. ⌜ r ≡ searchNumbers (now (numbers .entry)) vendor code ⌝ }
 {
-    let used = record::used(numbers);
+    let used = numbers::used(numbers);
     let mut i: usize = 0;
     while i < used {
-        if reader::is_found(record::get(numbers, i), vendor, code) {
+        if reader::is_found(numbers::get(numbers, i), vendor, code) {
             return i as u32;
         }
         i += 1;

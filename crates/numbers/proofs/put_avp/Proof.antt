@@ -1,9 +1,9 @@
--- `boundary::record::put_avp` meets its contract.
+-- `numbers::put_avp` meets its contract.
 use borrow.Author.Needs.{needs}
 use Prim.Native.Nat.{_+_, _*_}
 use Rattle.log.proofs.Log.{sets-seven}
-use Rattle.boundary.proofs.record.put_avp.Statement.{statement}
-use Rattle.boundary.proofs.record.put_avp.Tie as tie
+use Rattle.numbers.proofs.put_avp.Statement.{statement}
+use Rattle.numbers.proofs.put_avp.Tie as tie
 
 mul-at : tie.Need-mul-at
 mul-at c = search needs

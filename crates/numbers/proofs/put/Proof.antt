@@ -1,4 +1,4 @@
--- `boundary::record::put` meets its contract. With the AVPs from i on set, the numbers are those of the record.
+-- `numbers::put` meets its contract. With the AVPs from i on set, the numbers are those of the record.
 use borrow.Author.Needs.{needs}
 use mathlib.Core.Path.{_≡_, sym, ap, _∙_}
 use mathlib.Core.List.{List}
@@ -6,10 +6,10 @@ use Prim.Native.Nat.{ℕ, _≤_, _+_, _-_}
 use native.Mathlib.Omega.{arith}
 use lib.ListN.{length}
 use Rattle.reader.proofs.Places.{length-mapped}
-use Rattle.boundary.specs.Numbers.{numbersOf}
-use Rattle.boundary.proofs.Numbers.{rest, rest-all, rest-next, rest-none}
-use Rattle.boundary.proofs.record.put.Statement.{statement}
-use Rattle.boundary.proofs.record.put.Tie as tie
+use Rattle.numbers.specs.Numbers.{numbersOf}
+use Rattle.numbers.proofs.Numbers.{rest, rest-all, rest-next, rest-none}
+use Rattle.numbers.proofs.put.Statement.{statement}
+use Rattle.numbers.proofs.put.Tie as tie
 
 abbrev Inv-loop : tie.InvT-loop
 Inv-loop numbers₀ «record» i₀ numbers i = (i ≤ 256) × ((f : length («record» .avps) ≡ 256) → rest «record» f numbers i ≡ numbersOf «record»)

@@ -1,7 +1,7 @@
--- `boundary::record::put_head` meets its contract.
+-- `numbers::put_head` meets its contract.
 use borrow.Author.Needs.{needs}
-use Rattle.boundary.proofs.record.put_head.Statement.{statement}
-use Rattle.boundary.proofs.record.put_head.Tie as tie
+use Rattle.numbers.proofs.put_head.Statement.{statement}
+use Rattle.numbers.proofs.put_head.Tie as tie
 
 bit-of-requires : tie.Need-bit-of-requires
 bit-of-requires c κs = search needs

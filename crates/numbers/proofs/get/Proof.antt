@@ -1,9 +1,9 @@
--- `boundary::record::get` meets its contract.
+-- `numbers::get` meets its contract.
 use borrow.Author.Needs.{needs}
 use mathlib.Core.Path.{refl}
-use Rattle.boundary.specs.Numbers.{avpAt}
-use Rattle.boundary.proofs.record.get.Statement.{statement}
-use Rattle.boundary.proofs.record.get.Tie as tie
+use Rattle.numbers.specs.Numbers.{avpAt}
+use Rattle.numbers.proofs.get.Statement.{statement}
+use Rattle.numbers.proofs.get.Tie as tie
 
 mul-at : tie.Need-mul-at
 mul-at c = search needs

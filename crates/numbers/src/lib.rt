@@ -3,7 +3,7 @@ ghost use mathlib.Core.Path.{_≡_};
 ghost use Prim.Native.Nat.{_+_, _*_, _<_, min};
 ghost use lib.ListN.{length};
 ghost use lib.Seq.{sets};
-ghost use Rattle.boundary.specs.Numbers.{headNumbers, avpNumbers, numbersOf, avpAt, countOf};
+ghost use Rattle.numbers.specs.Numbers.{headNumbers, avpNumbers, numbersOf, avpAt, countOf};
 use rules::Avp;
 use rules::Record;
 use rules::limits;
@@ -41,7 +41,7 @@ fn put_avp(numbers: &mut [u32; 1799], position: usize, a: Avp)
     numbers[at + 6] = a.length;
 }
 
-pub(crate) fn put(numbers: &mut [u32; 1799], record: Record)
+pub fn put(numbers: &mut [u32; 1799], record: Record)
     ensures { λ _. ⌜ now (numbers .exit) ≡ numbersOf «record» ⌝ }
 {
     size(numbers);
@@ -60,14 +60,14 @@ fn wide(x: u32) -> usize
 }
 
 // How many positions are used; a count above 256 is read as 256.
-pub(crate) fn used(numbers: &[u32; 1799]) -> usize
+pub fn used(numbers: &[u32; 1799]) -> usize
     ensures { λ r. ⌜ r ≡ min (countOf (now (numbers .entry))) 256 ⌝ }
 {
     log::used(wide(numbers[6]))
 }
 
 // The AVP at a position.
-pub(crate) fn get(numbers: &[u32; 1799], position: usize) -> Avp
+pub fn get(numbers: &[u32; 1799], position: usize) -> Avp
     requires { ⌜ position < 256 ⌝ }
     ensures { λ r. ⌜ r ≡ avpAt (now (numbers .entry)) position ⌝ }
 {

@@ -16,7 +16,7 @@ use Rattle.rules.specs.Search.{blank, avpIn}
 use Rattle.rules.specs.Command.{commandOutcome}
 use Rattle.rules.specs.Record.{emptyRecord, recordBy, reading}
 use Rattle.log.proofs.Log.{bit-back}
-use Rattle.boundary.specs.Numbers.{headNumbers, avpNumbers, avpsNumbers, numbersOf, avpFrom, avpAt, avpsFrom, countOf, recordOf}
+use Rattle.numbers.specs.Numbers.{headNumbers, avpNumbers, avpsNumbers, numbersOf, avpFrom, avpAt, avpsFrom, countOf, recordOf}
 
 -- ---- written whole
 

@@ -1,0 +1,2 @@
+-- The laws of a record as numbers.
+pub mod Numbers

@@ -1,0 +1,2 @@
+-- A record as numbers.
+pub mod Numbers
