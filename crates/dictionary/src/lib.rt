@@ -1,7 +1,8 @@
 // 01, Dictionary, as a search by Vendor-Id and AVP code. Codes and widths are the constants of the kinds; each arm of a
 // `match` stands for one entry.
 ghost use mathlib.Core.Path.{_≡_};
-ghost use Rattle.rules.specs.Dictionary.{find, dictionary};
+ghost use Rattle.rules.specs.Dictionary.{find, dictionary, isGroup};
+ghost use Rattle.rules.specs.Meaning.{isReadGroup};
 use rules::Definition;
 use rules::Form;
 use rules::Grammar;
@@ -110,4 +111,25 @@ pub fn definition(vendor: u32, code: u32) -> Definition
         kinds::VENDOR_3GPP => definition_of_3gpp(code),
         _ => Definition::Unknown,
     }
+}
+
+// A group whose data is read.
+pub fn is_group(d: Definition) -> bool
+    ensures { λ r. ⌜ r ≡ isGroup d ⌝ }
+{
+    match d {
+        Definition::Known { m: _, form } => match form {
+            Form::Any => false,
+            Form::Fixed(_) => false,
+            Form::Group(_) => true,
+        },
+        Definition::Unknown => false,
+    }
+}
+
+// A name whose data is read as a list.
+pub fn is_read_group(vendor: u32, code: u32) -> bool
+    ensures { λ r. ⌜ r ≡ isReadGroup dictionary vendor code ⌝ }
+{
+    is_group(definition(vendor, code))
 }

@@ -8,6 +8,7 @@ use Rattle.rules.specs.declared.Avp.{Avp}
 use Rattle.rules.specs.declared.Record.{Record}
 use Rattle.rules.specs.Walk.{mostAvps}
 use Rattle.log.specs.Log.{bit}
+use Rattle.numbers.specs.declared.Head.{Head}
 
 abbrev pub headNumbers : Record → List ℕ
 headNumbers r =
@@ -57,4 +58,15 @@ recordOf numbers = record {
   «end_to_end» = getD numbers 5 0;
   count = countOf numbers;
   avps = avpsFrom numbers 0 mostAvps;
+}
+
+-- the command's part of a record
+abbrev pub headOf : Record → Head
+headOf r = record {
+  r = r .r;
+  p = r .p;
+  e = r .e;
+  t = r .t;
+  «hop_by_hop» = r .«hop_by_hop»;
+  «end_to_end» = r .«end_to_end»;
 }

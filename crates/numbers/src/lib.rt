@@ -3,10 +3,20 @@ ghost use mathlib.Core.Path.{_≡_};
 ghost use Prim.Native.Nat.{_+_, _*_, _<_, min};
 ghost use lib.ListN.{length};
 ghost use lib.Seq.{sets};
-ghost use Rattle.numbers.specs.Numbers.{headNumbers, avpNumbers, numbersOf, avpAt, countOf};
+ghost use Rattle.numbers.specs.Numbers.{headNumbers, avpNumbers, numbersOf, avpAt, countOf, recordOf, headOf};
 use rules::Avp;
 use rules::Record;
 use rules::limits;
+
+// The command's part of a record: its flags and identifiers.
+pub struct Head {
+    pub r: bool,
+    pub p: bool,
+    pub e: bool,
+    pub t: bool,
+    pub hop_by_hop: u32,
+    pub end_to_end: u32,
+}
 
 // A proof takes from here that what the array holds is as long as its type says.
 fn size(numbers: &[u32; 1799]) -> usize
@@ -80,5 +90,19 @@ pub fn get(numbers: &[u32; 1799], position: usize) -> Avp
         p: numbers[at + 4] == 1,
         start: numbers[at + 5],
         length: numbers[at + 6],
+    }
+}
+
+// The command's flags and identifiers.
+pub fn head_of(numbers: &[u32; 1799]) -> Head
+    ensures { λ r. ⌜ r ≡ headOf (recordOf (now (numbers .entry))) ⌝ }
+{
+    Head {
+        r: numbers[0] == 1,
+        p: numbers[1] == 1,
+        e: numbers[2] == 1,
+        t: numbers[3] == 1,
+        hop_by_hop: numbers[4],
+        end_to_end: numbers[5],
     }
 }

@@ -7,11 +7,12 @@ ghost use lib.ListN.{length};
 ghost use Rattle.rules.specs.Octets.{numberAt};
 ghost use Rattle.rules.specs.Verdict.{refused};
 ghost use Rattle.rules.specs.Avp.{flagV};
-ghost use Rattle.rules.specs.Dictionary.{dictionary, requiresM, isGroup};
+ghost use Rattle.rules.specs.Dictionary.{dictionary, requiresM};
 ghost use Rattle.rules.specs.Walk.{wrongFlags, unsupported, wrongWidth, wrongValue, tooDeep, contents, checked};
 ghost use Rattle.walk.specs.Promise.{InList};
 use crate::frame;
 use avp::is_named;
+use dictionary::is_group;
 use rules::Avp;
 use rules::Checked;
 use rules::Definition;
@@ -26,19 +27,6 @@ fn requires_m(d: Definition) -> bool
 {
     match d {
         Definition::Known { m, form: _ } => m,
-        Definition::Unknown => false,
-    }
-}
-
-fn is_group(d: Definition) -> bool
-    ensures { λ r. ⌜ r ≡ isGroup d ⌝ }
-{
-    match d {
-        Definition::Known { m: _, form } => match form {
-            Form::Any => false,
-            Form::Fixed(_) => false,
-            Form::Group(_) => true,
-        },
         Definition::Unknown => false,
     }
 }

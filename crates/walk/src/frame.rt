@@ -2,21 +2,13 @@
 // read from the rest of the list, so that one test of its length spares those of each number.
 ghost use mathlib.Core.Path.{_≡_};
 ghost use Prim.Native.Nat.{_+_, _<_};
-ghost use Rattle.rules.specs.Octets.{padded};
 ghost use Rattle.rules.specs.Avp.{nextAt, avpAt};
 ghost use Rattle.rules.specs.Walk.{framedBy, framing};
 ghost use Rattle.walk.specs.Promise.{InList, Framed};
+use octets::padded_length;
 use rules::Avp;
 use rules::Outcome;
 use rules::Verdict;
-
-// A length with the padding to a multiple of four.
-fn padded_length(length: usize) -> usize
-    requires { ⌜ length < 16777216 ⌝ }
-    ensures { λ r. ⌜ r ≡ padded length ⌝ }
-{
-    (length + 3) / 4 * 4
-}
 
 // Where the AVP after the one at `at` stands.
 pub(crate) fn next_at(s: &[u8], at: usize) -> usize

@@ -1,9 +1,9 @@
--- `walk::frame::padded_length` meets its contract.
+-- `octets::padded_length` meets its contract.
 use borrow.Author.Needs.{needs}
 use mathlib.Core.Path.{refl}
 use Rattle.rules.specs.Octets.{padded}
-use Rattle.walk.proofs.frame.padded_length.Statement.{statement}
-use Rattle.walk.proofs.frame.padded_length.Tie as tie
+use Rattle.octets.proofs.padded_length.Statement.{statement}
+use Rattle.octets.proofs.padded_length.Tie as tie
 
 add-result : tie.Need-add-result
 add-result c = search needs
