@@ -106,6 +106,14 @@ module _ (numbers : List ℕ) where
   unfolding recordOf
   count-in = refl
 
+  pub hop-in : recordOf numbers .«hop_by_hop» ≡ getD numbers 4 0
+  unfolding recordOf
+  hop-in = refl
+
+  pub end-in : recordOf numbers .«end_to_end» ≡ getD numbers 5 0
+  unfolding recordOf
+  end-in = refl
+
 avps-back : (numbers : List ℕ) (xs : List Avp) (i : ℕ) → drop (i * 7 + 7) numbers ≡ avpsNumbers xs
     → avpsFrom numbers i (length xs) ≡ xs
 unfolding avpsFrom avpsNumbers avpAt

@@ -1,7 +1,7 @@
 // A record as numbers in a lent array: written whole, and read place by place, so that no record is made to read one AVP.
 ghost use mathlib.Core.Path.{_≡_};
-ghost use Prim.Native.Nat.{_+_, _*_, _<_, min};
-ghost use lib.ListN.{length};
+ghost use Prim.Native.Nat.{ℕ, _+_, _*_, _^_, _<_, min};
+ghost use lib.ListN.{length, getD};
 ghost use lib.Seq.{sets};
 ghost use Rattle.numbers.specs.Numbers.{headNumbers, avpNumbers, numbersOf, avpAt, countOf, recordOf, headOf};
 use rules::Avp;
@@ -69,11 +69,18 @@ fn wide(x: u32) -> usize
     x as usize
 }
 
+// The count as it stands.
+pub fn count(numbers: &[u32; 1799]) -> usize
+    ensures { λ r. ⌜ r ≡ countOf (now (numbers .entry)) ⌝ }
+{
+    wide(numbers[6])
+}
+
 // How many positions are used; a count above 256 is read as 256.
 pub fn used(numbers: &[u32; 1799]) -> usize
     ensures { λ r. ⌜ r ≡ min (countOf (now (numbers .entry))) 256 ⌝ }
 {
-    log::used(wide(numbers[6]))
+    log::used(count(numbers))
 }
 
 // The AVP at a position.
@@ -105,4 +112,11 @@ pub fn head_of(numbers: &[u32; 1799]) -> Head
         hop_by_hop: numbers[4],
         end_to_end: numbers[5],
     }
+}
+
+// How many numbers there are. A proof takes from here that each fits four octets, as its type says.
+pub fn length(numbers: &[u32]) -> usize
+    ensures { λ r. ⌜ (r ≡ length (now (numbers .entry))) × ((i : ℕ) → getD (now (numbers .entry)) i 0 < 2 ^ 32) ⌝ }
+{
+    log::length(numbers)
 }

@@ -1,1 +1,4 @@
-// The writer.
+// The writer of commands.
+mod draft;
+mod emit;
+mod sizes;
