@@ -22,7 +22,7 @@ pub struct Judgement {
 }
 
 // Accepted: number, place, vendor and code 0.
-fn accepted() -> Verdict
+pub fn accepted() -> Verdict
     ensures { λ r. ⌜ r ≡ verdict 0 0 0 0 ⌝ }
 {
     Verdict {

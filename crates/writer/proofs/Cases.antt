@@ -15,7 +15,7 @@ use Rattle.rules.specs.Meaning.{Cell}
 use Rattle.rules.proofs.Walk.{by-cases}
 use Rattle.writer.specs.Drafts.{cellIn, isGroupAvp, hasSize}
 
-false-true : _≡_ {A = Bool} false true → ⊥
+pub false-true : _≡_ {A = Bool} false true → ⊥
 false-true e = let z : _≡_ {A = ℕ} 0 1 = cc in omega arith
 
 -- ---- vendor and code of an AVP of a record fit four octets

@@ -3,4 +3,6 @@ mod Cases
 mod Positions
 mod Putting
 mod Listing
+mod Commands
+mod Lengths
 mod Formed

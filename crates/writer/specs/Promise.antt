@@ -10,6 +10,7 @@ use Rattle.rules.specs.declared.Avp.{Avp}
 use Rattle.rules.specs.declared.Record.{Record}
 use Rattle.rules.specs.declared.Written.{Written}
 use Rattle.rules.specs.Dictionary.{dictionary}
+use Rattle.rules.specs.Verdict.{verdict}
 use Rattle.rules.specs.Command.{commandOutcome}
 use Rattle.rules.specs.Writer.{avpOctets, listOctets, commandHeader, draftMeaning, draftOctets, draftOutcome, ownSize, sizeUnder, writing, outputAfter}
 use Rattle.numbers.specs.Numbers.{recordOf}
@@ -68,3 +69,7 @@ pub record IsReady (numbers s out : List ℕ) (size : ℕ) : Type 0 where
 pub record IsWritten (r : Record) (s out : List ℕ) (w : Written) (after : List ℕ) : Type 0 where
   pub answer : w ≡ writing (draftOf r s) out
   pub left : after ≡ outputAfter (draftOf r s) out
+
+-- a refusal of the writer's own
+abbrev pub refusal : ℕ → Written
+refusal number = record { verdict = verdict number 0 0 0; length = 0 }
