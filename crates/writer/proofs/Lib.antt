@@ -5,4 +5,5 @@ mod Putting
 mod Listing
 mod Commands
 mod Lengths
+mod Answers
 mod Formed

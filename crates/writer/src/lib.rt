@@ -1,7 +1,7 @@
 // The writer of commands: from a draft, a record over lent octets, to a command in a lent output. A refused output stays as it
 // was, so the command is first put into an array of the longest command's size, and there the reader judges it.
 ghost use mathlib.Core.Path.{_≡_};
-ghost use Rattle.rules.specs.Verdict.{verdict};
+ghost use lib.ListN.{length};
 ghost use Rattle.numbers.specs.Numbers.{recordOf};
 ghost use Rattle.writer.specs.Promise.{IsReady, IsWritten, refusal};
 use octets::put;
@@ -30,12 +30,19 @@ fn refusal(number: u32) -> Written
     }
 }
 
+// Room for the longest command.
+fn blank_command() -> [u8; 16384]
+    ensures { λ r. ⌜ length r ≡ 16384 ⌝ }
+{
+    [0; 16384]
+}
+
 // A command in octets that have room for the longest, judged and, where it is accepted, copied out.
 fn write_ready(numbers: &[u32; 1799], s: &[u8], out: &mut [u8], size: usize) -> Written
     requires { ⌜ IsReady (now numbers) (now s) (now out) size ⌝ }
     ensures { λ r. ⌜ IsWritten (recordOf (now (numbers .entry))) (now (s .entry)) (now (out .entry)) r (now (out .exit)) ⌝ }
 {
-    let mut command = [0u8; 16384];
+    let mut command = blank_command();
     let mut log = [0u32; 1792];
     emit::put_command(&mut command, numbers, s, size);
     let outcome = reader::outcome(&command[..size], &mut log);
