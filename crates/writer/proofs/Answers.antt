@@ -16,7 +16,7 @@ use Rattle.rules.specs.declared.Outcome.the-variants.{Pass, Refused}
 use Rattle.rules.specs.Verdict.{verdict, refused}
 use Rattle.rules.specs.Dictionary.{dictionary}
 use Rattle.rules.specs.Command.{commandOutcome}
-use Rattle.rules.specs.Writer.{listOctets, hasRoom, identifiersFit, allBlank, allPlaced, isTree, hasSizes, sizeUnder, isWellFormed, draftOctets, draftOutcome, octetsWritten, writing, outputAfter}
+use Rattle.rules.specs.Writer.{hasRoom, identifiersFit, allBlank, allPlaced, isTree, hasSizes, sizeUnder, isWellFormed, draftOctets, draftOutcome, octetsWritten, writing, outputAfter}
 use Rattle.numbers.specs.Numbers.{recordOf}
 use Rattle.writer.specs.Drafts.{draftOf, drafted, cells, AllSized}
 use Rattle.writer.specs.Promise.{IsReady, IsWritten, refusal, CanPutCommand}

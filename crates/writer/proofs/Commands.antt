@@ -1,16 +1,15 @@
 -- The octets of a command: its header part by part, then its AVPs.
 use mathlib.Core.Path.{_≡_, refl, sym, ap, _∙_}
-use mathlib.Core.List.{List, _++_}
+use mathlib.Core.List.{List}
 use Prim.Native.Nat.{ℕ, _+_}
 use lib.ListN.{length, set, length-append}
 use lib.Seq.{sets}
 use Rattle.rules.specs.Meaning.{Meaning}
 use Rattle.rules.specs.Writer.{octets, flagsOctet, commandHeader, commandOctets, listOctets, draftMeaning, draftOctets}
 use Rattle.octets.proofs.Puts.{sets-append}
-use Rattle.numbers.specs.Numbers.{recordOf, headOf}
-use Rattle.numbers.specs.declared.Head.{Head}
+use Rattle.numbers.specs.Numbers.{recordOf}
 use Rattle.writer.specs.Drafts.{draftOf, drafted, cells}
-use Rattle.writer.specs.Promise.{IsHeader}
+use Rattle.writer.specs.Promise.{IsStart, identified}
 
 -- seven parts, each where the ones before it end
 header-parts : (out : List ℕ) (m : Meaning) (n : ℕ)
@@ -19,19 +18,6 @@ header-parts : (out : List ℕ) (m : Meaning) (n : ℕ)
     (octets 4 16777348)) 12 (octets 4 (m .hopByHop))) 16 (octets 4 (m .endToEnd))
 unfolding commandHeader octets
 header-parts out m n = refl
-
--- what the code knows of the parts, one after the other
-pub header-put : (out numbers : List ℕ) (size : ℕ) (head : Head) → head ≡ headOf (recordOf numbers)
-    → (first : List ℕ) → first ≡ sets (set out 0 1) 1 (octets 3 size)
-    → (flags : ℕ) → ((s : List ℕ) → flags ≡ flagsOctet (draftMeaning (draftOf (recordOf numbers) s)))
-    → (second : List ℕ) → second ≡ sets (set first 4 flags) 5 (octets 3 8388723)
-    → (third : List ℕ) → third ≡ sets second 8 (octets 4 16777348)
-    → (fourth : List ℕ) → fourth ≡ sets third 12 (octets 4 (head .«hop_by_hop»))
-    → (fifth : List ℕ) → fifth ≡ sets fourth 16 (octets 4 (head .«end_to_end»))
-    → IsHeader out numbers size fifth
-header-put out numbers size head h first a flags f second b third c fourth d fifth e = record {
-  is = λ s n z. e ∙ rw (d, c, b, a, f s, h, z) (sym (header-parts out (draftMeaning (draftOf (recordOf numbers) s)) n));
-}
 
 pub length-command-header : (m : Meaning) (n : ℕ) → length (commandHeader m n) ≡ 20
 unfolding commandHeader octets
@@ -47,13 +33,14 @@ module _ (numbers s : List ℕ) where
       length-append (commandHeader m (length xs)) xs ∙ ap (λ (n : ℕ). n + length xs) (length-command-header m (length xs))
 
   pub command-put : (out : List ℕ) (size : ℕ) → size ≡ 20 + length (listOctets (cells s (drafted numbers)))
-      → (first : List ℕ) → IsHeader out numbers size first
-      → (second : List ℕ) → second ≡ sets first 20 (listOctets (cells s (drafted numbers)))
-      → second ≡ sets out 0 (draftOctets (draftOf (recordOf numbers) s))
+      → (first : List ℕ) → IsStart out numbers size first
+      → (second : List ℕ) → second ≡ identified first (recordOf numbers)
+      → (third : List ℕ) → third ≡ sets second 20 (listOctets (cells s (drafted numbers)))
+      → third ≡ sets out 0 (draftOctets (draftOf (recordOf numbers) s))
   unfolding commandOctets
-  command-put out size z first h second e =
+  command-put out size z first h second i third e =
       let m = draftMeaning (draftOf (recordOf numbers) s) in
       let xs = listOctets (cells s (drafted numbers)) in
       e
-      ∙ ap (λ (l : List ℕ). sets l 20 xs) (h .is s (length xs) z)
+      ∙ ap (λ (l : List ℕ). sets l 20 xs) (i ∙ rw (h .is s, z) (sym (header-parts out m (length xs))))
       ∙ sym (sets-append out 0 (commandHeader m (length xs)) xs ∙ ap (λ (n : ℕ). sets (sets out 0 (commandHeader m (length xs))) (0 + n) xs) (length-command-header m (length xs)))

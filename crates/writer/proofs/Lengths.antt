@@ -1,13 +1,13 @@
 -- Lengths of a well-formed draft: each AVP takes as many octets as its own size says, and the command as many as the sizes
 -- of its AVPs add up to.
 use mathlib.Core.Path.{_≡_, refl, sym, ap, _∙_}
-use mathlib.Core.Bool.{Bool, true, false, cond, not, _&&_}
+use mathlib.Core.Bool.{Bool, true, false, not, _&&_}
 use mathlib.Core.List.{List, [], _∷_, _++_}
-use Prim.Native.Nat.{ℕ, _+_, _-_, _%_, _≤_, _<_}
+use Prim.Native.Nat.{ℕ, _+_, _-_, _%_, _≤_}
 use native.Mathlib.Omega.{arith}
 use borrow.Author.Tests.{leb-true, eqb-true, lt-ltb}
 use lib.Dec.{ltb, eqb, leb}
-use lib.ListN.{length, take, drop, replicate, length-append, length-drop, length-replicate}
+use lib.ListN.{length, drop, replicate, length-append, length-drop, length-replicate}
 use lib.Seq.{length-take-le}
 use Rattle.rules.specs.declared.Avp.{Avp}
 use Rattle.rules.specs.Octets.{padded}
@@ -91,8 +91,8 @@ module _ (s : List ℕ) where
   sized-by a xs p z =
       by-cases (isGroupAvp a)
       (λ g.
-          let e = eqb-true (a .length) (sizeUnder (a .depth) dictionary (cells s xs)) (rw g at z) in
-          sized-group a g (ap (λ (n : ℕ). n % 4) e ∙ under-four (a .depth) xs))
+      let e = eqb-true (a .length) (sizeUnder (a .depth) dictionary (cells s xs)) (rw g at z) in
+      sized-group a g (ap (λ (n : ℕ). n % 4) e ∙ under-four (a .depth) xs))
       (λ g. sized-part a g (placed-in a p g))
 
   -- ---- the list

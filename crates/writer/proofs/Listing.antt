@@ -9,7 +9,7 @@ use Rattle.rules.specs.declared.Avp.{Avp}
 use Rattle.rules.specs.Writer.{avpOctets, listOctets}
 use Rattle.octets.proofs.Puts.{sets-append}
 use Rattle.numbers.specs.Numbers.{avpAt, countOf}
-use Rattle.writer.specs.Drafts.{drafted, cellIn, cells, Sized, AllSized}
+use Rattle.writer.specs.Drafts.{drafted, cellIn, cells, AllSized}
 use Rattle.writer.specs.Promise.{IsPut, CanPut, CanPutAll}
 use Rattle.writer.proofs.Positions.{list-next, list-end, sized-next}
 

@@ -1,5 +1,5 @@
 -- A draft's AVPs position by position: each test of a list is that of the AVP at a position and of those behind it.
-use mathlib.Core.Path.{_≡_, refl, sym, ap, subst, _∙_}
+use mathlib.Core.Path.{_≡_, ap, subst, _∙_}
 use mathlib.Core.Bool.{Bool, true, false, _&&_}
 use mathlib.Core.List.{List, [], _∷_, _++_}
 use Prim.Native.Nat.{ℕ, _+_, _≤_, _<_, min}
@@ -7,11 +7,11 @@ use native.Mathlib.Numerals.{add-one}
 use native.Mathlib.Omega.{arith}
 use borrow.Author.Tests.{lt-ltb, le-ltb}
 use lib.Dec.{leb}
-use lib.ListN.{length, take, drop, drop-of-length-le}
+use lib.ListN.{length, drop, drop-of-length-le}
 use lib.Seq.{drop-cons, getD-take, length-take-le}
 use Rattle.rules.specs.declared.Avp.{Avp}
 use Rattle.rules.specs.Dictionary.{dictionary}
-use Rattle.rules.specs.Search.{blank, avpIn}
+use Rattle.rules.specs.Search.{blank}
 use Rattle.rules.specs.Writer.{isBlank, allBlank, isPlaced, allPlaced, avpOctets, listOctets, nextDepth, isTree, ownSize, sizeUnder, hasSizes}
 use Rattle.numbers.specs.Numbers.{recordOf, avpAt, countOf}
 use Rattle.numbers.proofs.Numbers.{avps-full, avp-in, count-in}

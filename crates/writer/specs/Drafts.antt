@@ -1,9 +1,9 @@
 -- A draft whose record is given as numbers: its AVPs and its cells, and what makes an AVP ready to be put out.
 use mathlib.Core.Path.{_≡_}
-use Prim.Native.Nat.{ℕ, _+_, _≤_}
+use Prim.Native.Nat.{ℕ, _≤_}
 use mathlib.Core.List.{List, [], _∷_, map}
 use mathlib.Core.Bool.{Bool, true, false, cond}
-use lib.ListN.{length, drop}
+use lib.ListN.{length}
 use lib.Dec.{eqb}
 use Rattle.rules.specs.declared.Avp.{Avp}
 use Rattle.rules.specs.declared.Record.{Record}
@@ -12,7 +12,7 @@ use Rattle.rules.specs.Dictionary.{dictionary}
 use Rattle.rules.specs.Record.{recorded}
 use Rattle.rules.specs.Meaning.{Cell, cellOf, isReadGroup}
 use Rattle.rules.specs.Writer.{Draft, avpOctets, ownSize, sizeUnder}
-use Rattle.numbers.specs.Numbers.{recordOf, avpAt}
+use Rattle.numbers.specs.Numbers.{recordOf}
 
 abbrev pub draftOf : Record → List ℕ → Draft
 draftOf r s = record { «record» = r; octets = s }

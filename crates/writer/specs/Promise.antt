@@ -4,15 +4,16 @@ use mathlib.Core.Path.{_≡_}
 use Prim.Native.Nat.{ℕ, _+_, _≤_}
 use mathlib.Core.List.{List}
 use mathlib.Core.Bool.{Bool, cond}
-use lib.ListN.{length, drop}
+use lib.ListN.{length, set, drop}
 use lib.Seq.{sets}
 use Rattle.rules.specs.declared.Avp.{Avp}
 use Rattle.rules.specs.declared.Record.{Record}
 use Rattle.rules.specs.declared.Written.{Written}
+use Rattle.rules.specs.Header.{applicationNt, codeBackgroundDataTransfer}
 use Rattle.rules.specs.Dictionary.{dictionary}
 use Rattle.rules.specs.Verdict.{verdict}
 use Rattle.rules.specs.Command.{commandOutcome}
-use Rattle.rules.specs.Writer.{avpOctets, listOctets, commandHeader, draftMeaning, draftOctets, draftOutcome, ownSize, sizeUnder, writing, outputAfter}
+use Rattle.rules.specs.Writer.{octets, avpOctets, listOctets, flagsOctet, draftMeaning, draftOctets, draftOutcome, ownSize, sizeUnder, writing, outputAfter}
 use Rattle.numbers.specs.Numbers.{recordOf}
 use Rattle.writer.specs.Drafts.{draftOf, drafted, cellIn, cells, Sized, AllSized}
 
@@ -46,10 +47,17 @@ pub record CanPutAll (out numbers s : List ℕ) : Type 0 where
   pub sized : AllSized s (drafted numbers)
   pub room : 20 + length (listOctets (cells s (drafted numbers))) ≤ length out
 
--- the header of a command of this size, whatever the draft's octets
-pub record IsHeader (before numbers : List ℕ) (size : ℕ) (after : List ℕ) : Type 0 where
-  pub is : (s : List ℕ) (n : ℕ) → size ≡ 20 + n
-      → after ≡ sets before 0 (commandHeader (draftMeaning (draftOf (recordOf numbers) s)) n)
+-- a header's first eight octets, for a command of this size, whatever the draft's octets
+pub record IsStart (before numbers : List ℕ) (size : ℕ) (after : List ℕ) : Type 0 where
+  pub is : (s : List ℕ)
+      → after
+      ≡ sets (set (sets (set before 0 1) 1 (octets 3 size)) 4 (flagsOctet (draftMeaning (draftOf (recordOf numbers) s)))) 5
+      (octets 3 codeBackgroundDataTransfer)
+
+-- its other twelve
+abbrev pub identified : List ℕ → Record → List ℕ
+identified before r =
+    sets (sets (sets before 8 (octets 4 applicationNt)) 12 (octets 4 (r .«hop_by_hop»))) 16 (octets 4 (r .«end_to_end»))
 
 -- a draft's AVPs with the size of its command
 pub record CanPutCommand (out numbers s : List ℕ) (size : ℕ) : Type 0 where

@@ -10,7 +10,7 @@ ghost use Rattle.rules.specs.Avp.{headerOf};
 ghost use Rattle.rules.specs.Writer.{avpFlags, avpHeader, avpOctets, listOctets, flagsOctet, draftMeaning, draftOctets};
 ghost use Rattle.numbers.specs.Numbers.{recordOf};
 ghost use Rattle.writer.specs.Drafts.{draftOf, drafted, cellIn, cells};
-ghost use Rattle.writer.specs.Promise.{IsFlag, IsPut, CanPut, CanPutAll, IsHeader, CanPutCommand};
+ghost use Rattle.writer.specs.Promise.{IsFlag, IsPut, CanPut, CanPutAll, IsStart, identified, CanPutCommand};
 use crate::sizes;
 use octets::put;
 use rules::Avp;
@@ -88,16 +88,23 @@ fn command_flags(numbers: &[u32; 1799]) -> u8
     flag(head.r, 128) + flag(head.p, 64) + flag(head.e, 32) + flag(head.t, 16)
 }
 
-// The command's header, for a command of this size.
-fn put_command_header(out: &mut [u8], numbers: &[u32; 1799], size: usize)
-    requires { ⌜ 20 ≤ length (now out) ⌝ }
-    ensures { λ _. ⌜ IsHeader (now (out .entry)) (now (numbers .entry)) size (now (out .exit)) ⌝ }
+// Version, length, flags and command code, for a command of this size.
+fn put_start(out: &mut [u8], numbers: &[u32; 1799], size: usize)
+    requires { ⌜ 8 ≤ length (now out) ⌝ }
+    ensures { λ _. ⌜ IsStart (now (out .entry)) (now (numbers .entry)) size (now (out .exit)) ⌝ }
 {
-    let head = numbers::head_of(numbers);
     out[0] = 1;
     put::number3(out, 1, size);
     out[4] = command_flags(numbers);
     put::number3(out, 5, limits::CODE_BACKGROUND_DATA_TRANSFER as usize);
+}
+
+// Application and identifiers, behind the start.
+fn put_identifiers(out: &mut [u8], numbers: &[u32; 1799])
+    requires { ⌜ 20 ≤ length (now out) ⌝ }
+    ensures { λ _. ⌜ now (out .exit) ≡ identified (now (out .entry)) (recordOf (now (numbers .entry))) ⌝ }
+{
+    let head = numbers::head_of(numbers);
     put::number4(out, 8, limits::APPLICATION_NT);
     put::number4(out, 12, head.hop_by_hop);
     put::number4(out, 16, head.end_to_end);
@@ -108,6 +115,7 @@ pub(crate) fn put_command(out: &mut [u8], numbers: &[u32; 1799], s: &[u8], size:
     requires { ⌜ CanPutCommand (now out) (now numbers) (now s) size ⌝ }
     ensures { λ _. ⌜ now (out .exit) ≡ sets (now (out .entry)) 0 (draftOctets (draftOf (recordOf (now (numbers .entry))) (now (s .entry)))) ⌝ }
 {
-    put_command_header(out, numbers, size);
+    put_start(out, numbers, size);
+    put_identifiers(out, numbers);
     put_list(out, numbers, s);
 }

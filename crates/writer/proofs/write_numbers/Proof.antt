@@ -1,18 +1,11 @@
 -- `writer::write_numbers` meets its contract.
 use borrow.Author.Needs.{needs}
 use mathlib.Core.Path.{sym, _∙_}
-use native.Mathlib.Omega.{arith}
 use borrow.Author.Tests.{not-true, not-false}
 use Rattle.numbers.specs.Numbers.{recordOf}
 use Rattle.writer.proofs.Answers.{refused-7006, refused-7001, refused-7004, formed-long, formed-ready}
 use Rattle.writer.proofs.write_numbers.Statement.{statement}
 use Rattle.writer.proofs.write_numbers.Tie as tie
-use Rattle.writer.proofs.write_numbers.Reads as reads
-use Rattle.writer.proofs.write_numbers.Lts as lts
-use Rattle.writer.proofs.draft.is_well_formed.Reads as is-well-formed-reads
-use Rattle.writer.proofs.refusal.Reads as refusal-reads
-use Rattle.writer.proofs.sizes.size_under.Reads as size-under-reads
-use Rattle.writer.proofs.write_ready.Reads as write-ready-reads
 
 is-well-formed-requires : tie.Need-is-well-formed-requires
 is-well-formed-requires c κs = search needs
@@ -22,7 +15,9 @@ refusal-requires c κs = search needs
 
 returns : tie.Need-returns
 returns c =
-    refused-7006 (recordOf (c .before .before .before .before .before .args .numbers .now)) (c .before .before .before .before .before .args .s .now) (c .before .before .before .before .before .args .out .now) (sym (c .before .before .is-well-formed .ensures) ∙ not-true _ (c .before .if1 .taken)) _ (c .refusal .ensures)
+    let a = c .before .before .before .before .before .args in
+    let not-formed = sym (c .before .before .is-well-formed .ensures) ∙ not-true _ (c .before .if1 .taken) in
+    refused-7006 (recordOf (a .numbers .now)) (a .s .now) (a .out .now) not-formed _ (c .refusal .ensures)
 
 size-under-requires : tie.Need-size-under-requires
 size-under-requires c κs = search needs
@@ -35,27 +30,48 @@ refusal-requires-2 c κs = search needs
 
 returns-2 : tie.Need-returns-2
 returns-2 c =
-    let n = c .before .before .before .before .before .before .before .args .numbers .now in
-    let s = c .before .before .before .before .before .before .before .args .s .now in
-    let formed = sym (c .before .before .before .before .is-well-formed .ensures) ∙ not-false _ (c .before .before .before .if1 .left) in
-    refused-7001 (recordOf n) s (c .before .before .before .before .before .before .before .args .out .now) formed _ (formed-long n s formed _ (c .before .before .size-under .ensures .is s)) (c .before .if2 .taken) _ (c .refusal2 .ensures)
+    let at-if2 = c .before in
+    let at-size-under = at-if2 .before in
+    let at-if1 = at-size-under .before in
+    let at-is-well-formed = at-if1 .before in
+    let start = at-is-well-formed .before .before .before in
+    let n = start .args .numbers .now in
+    let s = start .args .s .now in
+    let formed = sym (at-is-well-formed .is-well-formed .ensures) ∙ not-false _ (at-if1 .if1 .left) in
+    let long = formed-long n s formed _ (at-size-under .size-under .ensures .is s) in
+    refused-7001 (recordOf n) s (start .args .out .now) formed _ long (at-if2 .if2 .taken) _ (c .refusal2 .ensures)
 
 refusal-requires-3 : tie.Need-refusal-requires-3
 refusal-requires-3 c κs = search needs
 
 returns-3 : tie.Need-returns-3
 returns-3 c =
-    let n = c .before .before .before .before .before .before .before .before .args .numbers .now in
-    let s = c .before .before .before .before .before .before .before .before .args .s .now in
-    let formed = sym (c .before .before .before .before .before .is-well-formed .ensures) ∙ not-false _ (c .before .before .before .before .if1 .left) in
-    refused-7004 (recordOf n) s (c .before .before .before .before .before .before .before .before .args .out .now) formed _ (formed-long n s formed _ (c .before .before .before .size-under .ensures .is s)) (c .before .before .if2 .left) (c .before .if3 .taken) _ (c .refusal3 .ensures)
+    let at-if3 = c .before in
+    let at-if2 = at-if3 .before in
+    let at-size-under = at-if2 .before in
+    let at-if1 = at-size-under .before in
+    let at-is-well-formed = at-if1 .before in
+    let start = at-is-well-formed .before .before .before in
+    let n = start .args .numbers .now in
+    let s = start .args .s .now in
+    let formed = sym (at-is-well-formed .is-well-formed .ensures) ∙ not-false _ (at-if1 .if1 .left) in
+    let long = formed-long n s formed _ (at-size-under .size-under .ensures .is s) in
+    refused-7004 (recordOf n) s (start .args .out .now) formed _ long (at-if2 .if2 .left) (at-if3 .if3 .taken) _
+    (c .refusal3 .ensures)
 
 write-ready-requires : tie.Need-write-ready-requires
 write-ready-requires c κs =
-    let n = c .before .before .before .before .before .before .before .before .args .numbers .now in
-    let s = c .before .before .before .before .before .before .before .before .args .s .now in
-    let formed = sym (c .before .before .before .before .before .is-well-formed .ensures) ∙ not-false _ (c .before .before .before .before .if1 .left) in
-    formed-ready n s formed (c .before .before .before .before .before .before .before .before .args .out .now) _ (formed-long n s formed _ (c .before .before .before .size-under .ensures .is s)) (c .before .before .if2 .left) (c .before .if3 .left)
+    let at-if3 = c .before in
+    let at-if2 = at-if3 .before in
+    let at-size-under = at-if2 .before in
+    let at-if1 = at-size-under .before in
+    let at-is-well-formed = at-if1 .before in
+    let start = at-is-well-formed .before .before .before in
+    let n = start .args .numbers .now in
+    let s = start .args .s .now in
+    let formed = sym (at-is-well-formed .is-well-formed .ensures) ∙ not-false _ (at-if1 .if1 .left) in
+    let long = formed-long n s formed _ (at-size-under .size-under .ensures .is s) in
+    formed-ready n s formed (start .args .out .now) _ long (at-if2 .if2 .left) (at-if3 .if3 .left)
 
 same-length : tie.Need-same-length
 same-length c = search needs

@@ -1,17 +1,9 @@
 -- `writer::write_ready` meets its contract.
 use borrow.Author.Needs.{needs}
-use mathlib.Core.Path.{sym, _∙_}
 use native.Mathlib.Omega.{arith}
 use Rattle.writer.proofs.Answers.{ready-can, ready-length, ready-refused, ready-accepted}
 use Rattle.writer.proofs.write_ready.Statement.{statement}
 use Rattle.writer.proofs.write_ready.Tie as tie
-use Rattle.writer.proofs.write_ready.Reads as reads
-use Rattle.writer.proofs.write_ready.Lts as lts
-use Rattle.octets.proofs.put.run.Reads as run-reads
-use Rattle.reader.proofs.accepted.Reads as accepted-reads
-use Rattle.reader.proofs.outcome.Reads as outcome-reads
-use Rattle.writer.proofs.blank_command.Reads as blank-command-reads
-use Rattle.writer.proofs.emit.put_command.Reads as put-command-reads
 
 blank-command-requires : tie.Need-blank-command-requires
 blank-command-requires c κs = search needs
@@ -21,14 +13,23 @@ slice-aggregate-put-command c = search needs
 
 put-command-requires : tie.Need-put-command-requires
 put-command-requires c κs =
-    ready-can (c .before .before .before .before .args .numbers .now) (c .before .before .before .before .args .s .now) (c .before .before .before .before .args .out .now) (c .before .before .before .before .args .size) (c .before .before .before .before .pre) _ (c .before .blank-command .ensures)
+    let at-blank-command = c .before in
+    let start = at-blank-command .before .before .before in
+    let a = start .args in
+    ready-can (a .numbers .now) (a .s .now) (a .out .now) (a .size) (start .pre) _
+    (at-blank-command .blank-command .ensures)
 
 array-share-prefix-command : tie.Need-array-share-prefix-command
 array-share-prefix-command c = search needs
 
 slice-aggregate-outcome : tie.Need-slice-aggregate-outcome
 slice-aggregate-outcome c =
-    ready-length (c .before .before .before .before .before .before .before .args .numbers .now) (c .before .before .before .before .before .before .before .args .s .now) (c .before .before .before .before .before .before .before .args .out .now) (c .before .before .before .before .before .before .before .args .size) (c .before .before .before .before .before .before .before .pre) _ (c .before .before .before .before .blank-command .ensures) _ (c .before .before .put-command .ensures)
+    let at-put-command = c .before .before in
+    let at-blank-command = at-put-command .before .before in
+    let start = at-blank-command .before .before .before in
+    let a = start .args in
+    ready-length (a .numbers .now) (a .s .now) (a .out .now) (a .size) (start .pre) _
+    (at-blank-command .blank-command .ensures) _ (at-put-command .put-command .ensures)
 
 outcome-requires : tie.Need-outcome-requires
 outcome-requires c κs = search needs
@@ -38,7 +39,16 @@ enum-known-outcome c = search needs
 
 returns : tie.Need-returns
 returns c =
-    ready-refused (c .before .before .before .before .before .before .before .before .before .before .before .before .args .numbers .now) (c .before .before .before .before .before .before .before .before .before .before .before .before .args .s .now) (c .before .before .before .before .before .before .before .before .before .before .before .before .args .out .now) (c .before .before .before .before .before .before .before .before .before .before .before .before .args .size) (c .before .before .before .before .before .before .before .before .before .before .before .before .pre) _ (c .before .before .before .before .before .before .before .before .before .blank-command .ensures) _ (c .before .before .before .before .before .before .before .put-command .ensures) _ (c .before .before .before .outcome .ensures .answer) (c .before .outcome2 .given .1)
+    let at-outcome2 = c .before in
+    let at-outcome = at-outcome2 .before .before in
+    let at-put-command = at-outcome .before .before .before .before in
+    let at-blank-command = at-put-command .before .before in
+    let start = at-blank-command .before .before .before in
+    let a = start .args in
+    ready-refused (a .numbers .now) (a .s .now) (a .out .now) (a .size) (start .pre) _
+    (at-blank-command .blank-command .ensures)
+    _ (at-put-command .put-command .ensures) _ (at-outcome .outcome .ensures .answer)
+    (at-outcome2 .outcome2 .given .1)
 
 enum-told : tie.Need-enum-told
 enum-told c = search needs
@@ -48,12 +58,22 @@ array-share-prefix-command-2 c = search needs
 
 slice-aggregate-run : tie.Need-slice-aggregate-run
 slice-aggregate-run c =
-    ready-length (c .before .before .before .before .before .before .before .before .before .before .before .before .before .args .numbers .now) (c .before .before .before .before .before .before .before .before .before .before .before .before .before .args .s .now) (c .before .before .before .before .before .before .before .before .before .before .before .before .before .args .out .now) (c .before .before .before .before .before .before .before .before .before .before .before .before .before .args .size) (c .before .before .before .before .before .before .before .before .before .before .before .before .before .pre) _ (c .before .before .before .before .before .before .before .before .before .before .blank-command .ensures) _ (c .before .before .before .before .before .before .before .before .put-command .ensures)
+    let at-put-command = c .before .before .before .before .before .before .before .before in
+    let at-blank-command = at-put-command .before .before in
+    let start = at-blank-command .before .before .before in
+    let a = start .args in
+    ready-length (a .numbers .now) (a .s .now) (a .out .now) (a .size) (start .pre) _
+    (at-blank-command .blank-command .ensures) _ (at-put-command .put-command .ensures)
 
 run-requires : tie.Need-run-requires
 run-requires c κs =
-    let long = ready-length (c .before .before .before .before .before .before .before .before .before .before .before .before .before .args .numbers .now) (c .before .before .before .before .before .before .before .before .before .before .before .before .before .args .s .now) (c .before .before .before .before .before .before .before .before .before .before .before .before .before .args .out .now) (c .before .before .before .before .before .before .before .before .before .before .before .before .before .args .size) (c .before .before .before .before .before .before .before .before .before .before .before .before .before .pre) _ (c .before .before .before .before .before .before .before .before .before .before .blank-command .ensures) _ (c .before .before .before .before .before .before .before .before .put-command .ensures) in
-    omega (arith, long, c .before .before .before .before .before .before .before .before .before .before .before .before .before .pre .room)
+    let at-put-command = c .before .before .before .before .before .before .before .before in
+    let at-blank-command = at-put-command .before .before in
+    let start = at-blank-command .before .before .before in
+    let a = start .args in
+    let long = ready-length (a .numbers .now) (a .s .now) (a .out .now) (a .size) (start .pre) _
+    (at-blank-command .blank-command .ensures) _ (at-put-command .put-command .ensures) in
+    omega (arith, long, start .pre .room)
 
 accepted-requires : tie.Need-accepted-requires
 accepted-requires c κs = search needs
@@ -66,7 +86,18 @@ same-length c = search needs
 
 returns-2 : tie.Need-returns-2
 returns-2 c =
-    ready-accepted (c .before .before .before .before .before .before .before .before .before .before .before .before .before .before .before .before .before .args .numbers .now) (c .before .before .before .before .before .before .before .before .before .before .before .before .before .before .before .before .before .args .s .now) (c .before .before .before .before .before .before .before .before .before .before .before .before .before .before .before .before .before .args .out .now) (c .before .before .before .before .before .before .before .before .before .before .before .before .before .before .before .before .before .args .size) (c .before .before .before .before .before .before .before .before .before .before .before .before .before .before .before .before .before .pre) _ (c .before .before .before .before .before .before .before .before .before .before .before .before .before .before .blank-command .ensures) _ (c .before .before .before .before .before .before .before .before .before .before .before .before .put-command .ensures) _ (c .before .before .before .before .before .before .before .before .outcome .ensures .answer) (c .before .before .before .before .before .before .enum-told .given .1) _ (c .accepted .ensures) _ (c .before .before .before .run .ensures)
+    let at-run = c .before .before .before in
+    let at-enum-told = at-run .before .before .before in
+    let at-outcome = at-enum-told .before .before in
+    let at-put-command = at-outcome .before .before .before .before in
+    let at-blank-command = at-put-command .before .before in
+    let start = at-blank-command .before .before .before in
+    let a = start .args in
+    ready-accepted (a .numbers .now) (a .s .now) (a .out .now) (a .size) (start .pre) _
+    (at-blank-command .blank-command .ensures)
+    _ (at-put-command .put-command .ensures) _ (at-outcome .outcome .ensures .answer)
+    (at-enum-told .enum-told .given .1)
+    _ (c .accepted .ensures) _ (at-run .run .ensures)
 
 pub write-ready-spec : {M : Type 1} → statement M
 write-ready-spec =

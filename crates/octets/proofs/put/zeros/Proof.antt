@@ -6,7 +6,7 @@ use native.Mathlib.Omega.{arith}
 use lib.ListN.{length, length-set, replicate}
 use lib.Seq.{sets}
 use Rattle.octets.proofs.Puts.{runLeft, run-all, zeros-next, zeros-end}
-use Rattle.octets.proofs.Puts.{runLeft, run-all, run-next, run-end}
+use Rattle.octets.proofs.Puts.{runLeft, run-all}
 use Rattle.octets.proofs.put.zeros.Statement.{statement}
 use Rattle.octets.proofs.put.zeros.Tie as tie
 

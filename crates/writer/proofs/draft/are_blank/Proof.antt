@@ -10,13 +10,10 @@ use Rattle.writer.proofs.Positions.{and-stop, and-on, blank-next, blank
 use native.Mathlib.Omega.{arith}
 use Rattle.writer.proofs.draft.are_blank.Statement.{statement}
 use Rattle.writer.proofs.draft.are_blank.Tie as tie
-use Rattle.writer.proofs.draft.are_blank.Reads as reads
-use Rattle.writer.proofs.draft.are_blank.Lts as lts
-use Rattle.numbers.proofs.get.Reads as get-reads
-use Rattle.writer.proofs.draft.is_blank.Reads as is-blank-reads
 
 abbrev Inv-loop : tie.InvT-loop
-Inv-loop numbers from i₀ i = allBlank (drop i (recordOf numbers .avps)) ≡ allBlank (drop from (recordOf numbers .avps))
+Inv-loop numbers from i₀ i =
+    allBlank (drop i (recordOf numbers .avps)) ≡ allBlank (drop from (recordOf numbers .avps))
 
 abbrev μ-loop : tie.MeasureT-loop
 μ-loop numbers from i₀ i = 256 - i
@@ -32,10 +29,16 @@ is-blank-requires c κs = search needs
 
 returns : tie.Need-returns Inv-loop μ-loop
 returns c =
-    let n = c .before .before .before .before .before .args .numbers .now in
-    let i = c .before .before .before .before .loop .i in
-    let here = ap isBlank (sym (c .before .before .get .ensures)) ∙ sym (c .before .is-blank .ensures) ∙ not-true _ (c .if1 .taken) in
-    sym (and-stop _ _ (blank-next n i (c .before .before .before .loop-test .taken)) here) ∙ c .before .before .before .before .loop .inv
+    let at-is-blank = c .before in
+    let at-get = at-is-blank .before in
+    let at-loop-test = at-get .before in
+    let at-loop = at-loop-test .before in
+    let start = at-loop .before in
+    let n = start .args .numbers .now in
+    let i = at-loop .loop .i in
+    let here = ap isBlank (sym (at-get .get .ensures)) ∙ sym (at-is-blank .is-blank .ensures) ∙ not-true _
+    (c .if1 .taken) in
+    sym (and-stop _ _ (blank-next n i (at-loop-test .loop-test .taken)) here) ∙ at-loop .loop .inv
 
 add-i : tie.Need-add-i Inv-loop μ-loop
 add-i c = search needs
@@ -45,13 +48,22 @@ loop-less c = search needs
 
 loop-again : tie.Need-loop-again Inv-loop μ-loop
 loop-again c =
-    let n = c .before .before .before .before .before .args .numbers .now in
-    let i = c .before .before .before .before .loop .i in
-    let here = ap isBlank (sym (c .before .before .get .ensures)) ∙ sym (c .before .is-blank .ensures) ∙ not-false _ (c .if1 .left) in
-    sym (and-on _ _ (blank-next n i (c .before .before .before .loop-test .taken)) here) ∙ c .before .before .before .before .loop .inv
+    let at-is-blank = c .before in
+    let at-get = at-is-blank .before in
+    let at-loop-test = at-get .before in
+    let at-loop = at-loop-test .before in
+    let start = at-loop .before in
+    let n = start .args .numbers .now in
+    let i = at-loop .loop .i in
+    let here = ap isBlank (sym (at-get .get .ensures)) ∙ sym (at-is-blank .is-blank .ensures) ∙ not-false _
+    (c .if1 .left) in
+    sym (and-on _ _ (blank-next n i (at-loop-test .loop-test .taken)) here) ∙ at-loop .loop .inv
 
 returns-2 : tie.Need-returns-2 Inv-loop μ-loop
-returns-2 c = sym (blank-end (c .before .before .args .numbers .now) (c .before .loop .i) (c .loop-test .left)) ∙ c .before .loop .inv
+returns-2 c =
+    let at-loop = c .before in
+    let start = at-loop .before in
+    sym (blank-end (start .args .numbers .now) (at-loop .loop .i) (c .loop-test .left)) ∙ at-loop .loop .inv
 
 pub are-blank-spec : {M : Type 1} → statement M
 are-blank-spec =

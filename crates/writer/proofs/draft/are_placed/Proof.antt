@@ -12,14 +12,11 @@ use Rattle.writer.specs.Drafts.{drafted}
 use Rattle.writer.proofs.Positions.{and-stop, and-on, placed-next, placed-end}
 use Rattle.writer.proofs.draft.are_placed.Statement.{statement}
 use Rattle.writer.proofs.draft.are_placed.Tie as tie
-use Rattle.writer.proofs.draft.are_placed.Reads as reads
-use Rattle.writer.proofs.draft.are_placed.Lts as lts
-use Rattle.numbers.proofs.get.Reads as get-reads
-use Rattle.numbers.proofs.used.Reads as used-reads
-use Rattle.writer.proofs.draft.is_placed.Reads as is-placed-reads
 
 abbrev Inv-loop : tie.InvT-loop
-Inv-loop numbers size used i₀ i = (used ≡ min (countOf numbers) 256) × (allPlaced dictionary size (drop i (drafted numbers)) ≡ allPlaced dictionary size (drafted numbers))
+Inv-loop numbers size used i₀ i =
+    (used ≡ min (countOf numbers) 256)
+    × (allPlaced dictionary size (drop i (drafted numbers)) ≡ allPlaced dictionary size (drafted numbers))
 
 abbrev μ-loop : tie.MeasureT-loop
 μ-loop numbers size used i₀ i = used - i
@@ -38,11 +35,18 @@ is-placed-requires c κs = search needs
 
 returns : tie.Need-returns Inv-loop μ-loop
 returns c =
-    let n = c .before .before .before .before .before .before .args .numbers .now in
-    let size = c .before .before .before .before .before .before .args .size in
-    let i = c .before .before .before .before .loop .i in
-    let here = ap (isPlaced dictionary size) (sym (c .before .before .get .ensures)) ∙ sym (c .before .is-placed .ensures) ∙ not-true _ (c .if1 .taken) in
-    sym (and-stop _ _ (placed-next n size i (omega (arith, c .before .before .before .loop-test .taken, c .before .before .before .before .loop .inv .0))) here) ∙ c .before .before .before .before .loop .inv .1
+    let at-is-placed = c .before in
+    let at-get = at-is-placed .before in
+    let at-loop-test = at-get .before in
+    let at-loop = at-loop-test .before in
+    let start = at-loop .before .before in
+    let n = start .args .numbers .now in
+    let size = start .args .size in
+    let i = at-loop .loop .i in
+    let at = ap (isPlaced dictionary size) (sym (at-get .get .ensures)) in
+    let here = at ∙ sym (at-is-placed .is-placed .ensures) ∙ not-true _ (c .if1 .taken) in
+    let next = placed-next n size i (omega (arith, at-loop-test .loop-test .taken, at-loop .loop .inv .0)) in
+    sym (and-stop _ _ next here) ∙ at-loop .loop .inv .1
 
 add-i : tie.Need-add-i Inv-loop μ-loop
 add-i c = search needs
@@ -52,15 +56,26 @@ loop-less c = search needs
 
 loop-again : tie.Need-loop-again Inv-loop μ-loop
 loop-again c =
-    let n = c .before .before .before .before .before .before .args .numbers .now in
-    let size = c .before .before .before .before .before .before .args .size in
-    let i = c .before .before .before .before .loop .i in
-    let here = ap (isPlaced dictionary size) (sym (c .before .before .get .ensures)) ∙ sym (c .before .is-placed .ensures) ∙ not-false _ (c .if1 .left) in
-    (c .before .before .before .before .loop .inv .0, sym (and-on _ _ (placed-next n size i (omega (arith, c .before .before .before .loop-test .taken, c .before .before .before .before .loop .inv .0))) here) ∙ c .before .before .before .before .loop .inv .1)
+    let at-is-placed = c .before in
+    let at-get = at-is-placed .before in
+    let at-loop-test = at-get .before in
+    let at-loop = at-loop-test .before in
+    let start = at-loop .before .before in
+    let n = start .args .numbers .now in
+    let size = start .args .size in
+    let i = at-loop .loop .i in
+    let at = ap (isPlaced dictionary size) (sym (at-get .get .ensures)) in
+    let here = at ∙ sym (at-is-placed .is-placed .ensures) ∙ not-false _ (c .if1 .left) in
+    let next = placed-next n size i (omega (arith, at-loop-test .loop-test .taken, at-loop .loop .inv .0)) in
+    (at-loop .loop .inv .0, sym (and-on _ _ next here) ∙ at-loop .loop .inv .1)
 
 returns-2 : tie.Need-returns-2 Inv-loop μ-loop
 returns-2 c =
-    sym (placed-end (c .before .before .before .args .numbers .now) (c .before .before .before .args .size) (c .before .loop .i) (omega (arith, c .loop-test .left, c .before .loop .inv .0))) ∙ c .before .loop .inv .1
+    let at-loop = c .before in
+    let start = at-loop .before .before in
+    let end = placed-end (start .args .numbers .now) (start .args .size) (at-loop .loop .i)
+    (omega (arith, c .loop-test .left, at-loop .loop .inv .0)) in
+    sym end ∙ at-loop .loop .inv .1
 
 pub are-placed-spec : {M : Type 1} → statement M
 are-placed-spec =

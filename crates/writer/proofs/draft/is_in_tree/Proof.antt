@@ -2,8 +2,6 @@
 use borrow.Author.Tests.{lt-leb, le-leb}
 use Rattle.writer.proofs.draft.is_in_tree.Statement.{statement}
 use Rattle.writer.proofs.draft.is_in_tree.Tie as tie
-use Rattle.writer.proofs.draft.is_in_tree.Reads as reads
-use Rattle.writer.proofs.draft.is_in_tree.Lts as lts
 
 returns : tie.Need-returns
 returns c = rw (lt-leb 1 _ (c .if1 .taken))

@@ -1,22 +1,20 @@
 -- `writer::draft::is_placed` meets its contract. Vendor and code fit four octets by their type.
 use borrow.Author.Needs.{needs}
-use mathlib.Core.Path.{_≡_, sym, _∙_}
-use Prim.Native.Nat.{_^_, _<_}
-use native.Mathlib.Omega.{arith}
+use mathlib.Core.Path.{sym, _∙_}
 use Rattle.writer.proofs.Cases.{placed-group, placed-part}
-use Rattle.rules.specs.Writer.{isPlaced}
+use mathlib.Core.Path.{sym, _∙_}
 use Rattle.writer.proofs.draft.is_placed.Statement.{statement}
 use Rattle.writer.proofs.draft.is_placed.Tie as tie
-use Rattle.writer.proofs.draft.is_placed.Reads as reads
-use Rattle.writer.proofs.draft.is_placed.Lts as lts
-use Rattle.dictionary.proofs.is_read_group.Reads as is-read-group-reads
 
 is-read-group-requires : tie.Need-is-read-group-requires
 is-read-group-requires c κs = search needs
 
 returns : tie.Need-returns
 returns c =
-    placed-group (c .before .before .args .size) (c .before .before .args .a) (search needs) (search needs) (sym (c .before .is-read-group .ensures) ∙ c .if1 .taken)
+    let at-is-read-group = c .before in
+    let start = at-is-read-group .before in
+    placed-group (start .args .size) (start .args .a) (search needs) (search needs)
+    (sym (at-is-read-group .is-read-group .ensures) ∙ c .if1 .taken)
 
 cast-result : tie.Need-cast-result
 cast-result c = search needs
@@ -29,7 +27,11 @@ add-result c = search needs
 
 returns-2 : tie.Need-returns-2
 returns-2 c =
-    placed-part (c .before .before .before .before .args .size) (c .before .before .before .before .args .a) (search needs) (search needs) (sym (c .before .before .before .is-read-group .ensures) ∙ c .before .before .if1 .left)
+    let at-if1 = c .before .before in
+    let at-is-read-group = at-if1 .before in
+    let start = at-is-read-group .before in
+    placed-part (start .args .size) (start .args .a) (search needs) (search needs)
+    (sym (at-is-read-group .is-read-group .ensures) ∙ at-if1 .if1 .left)
 
 pub is-placed-spec : {M : Type 1} → statement M
 is-placed-spec =

@@ -3,7 +3,7 @@ use borrow.Author.Needs.{needs}
 use mathlib.Core.Path.{_≡_, refl, sym, ap, _∙_}
 use mathlib.Core.Bool.{_&&_}
 use mathlib.Core.List.{List}
-use Prim.Native.Nat.{ℕ, _+_, _-_, min}
+use Prim.Native.Nat.{ℕ, _+_, _-_, _<_, min}
 use native.Mathlib.Omega.{arith}
 use borrow.Author.Tests.{not-true, not-false}
 use lib.Dec.{leb}
@@ -14,17 +14,13 @@ use Rattle.numbers.specs.Numbers.{countOf, avpAt}
 use Rattle.writer.specs.Drafts.{cellIn}
 use Rattle.writer.proofs.Cases.{in-tree-most}
 use Rattle.writer.proofs.Positions.{and-stop, and-on, treeLeft, tree-next, tree-end}
+use Prim.Native.Nat.{ℕ, _+_, _-_, min}
 use Rattle.writer.proofs.draft.is_tree.Statement.{statement}
 use Rattle.writer.proofs.draft.is_tree.Tie as tie
-use Rattle.writer.proofs.draft.is_tree.Reads as reads
-use Rattle.writer.proofs.draft.is_tree.Lts as lts
-use Rattle.numbers.proofs.get.Reads as get-reads
-use Rattle.numbers.proofs.used.Reads as used-reads
-use Rattle.writer.proofs.draft.is_in_tree.Reads as is-in-tree-reads
-use Rattle.writer.proofs.draft.next_depth.Reads as next-depth-reads
 
 abbrev Inv-loop : tie.InvT-loop
-Inv-loop numbers used most₀ i₀ most i = (used ≡ min (countOf numbers) 256) × ((s : List ℕ) → treeLeft numbers s most i ≡ treeLeft numbers s 1 0)
+Inv-loop numbers used most₀ i₀ most i =
+    (used ≡ min (countOf numbers) 256) × ((s : List ℕ) → treeLeft numbers s most i ≡ treeLeft numbers s 1 0)
 
 abbrev μ-loop : tie.MeasureT-loop
 μ-loop numbers used most₀ i₀ most i = used - i
@@ -43,13 +39,25 @@ is-in-tree-requires c κs = search needs
 
 returns : tie.Need-returns Inv-loop μ-loop
 returns c s =
-    let n = c .before .before .before .before .before .before .args .numbers .now in
-    let most = c .before .before .before .before .loop .most in
-    let here = ap (λ (a : Avp). leb 1 (a .depth) && leb (a .depth) most && leb (a .depth) 4) (sym (c .before .before .get .ensures)) ∙ sym (c .before .is-in-tree .ensures) ∙ not-true _ (c .if1 .taken) in
-    sym (and-stop _ _ (tree-next n s most (c .before .before .before .before .loop .i) (omega (arith, c .before .before .before .loop-test .taken, c .before .before .before .before .loop .inv .0))) here) ∙ c .before .before .before .before .loop .inv .1 s
+    let at-is-in-tree = c .before in
+    let at-get = at-is-in-tree .before in
+    let at-loop-test = at-get .before in
+    let at-loop = at-loop-test .before in
+    let start = at-loop .before .before in
+    let n = start .args .numbers .now in
+    let most = at-loop .loop .most in
+    let at = ap (λ (a : Avp). leb 1 (a .depth) && leb (a .depth) most && leb (a .depth) 4)
+    (sym (at-get .get .ensures)) in
+    let here = at ∙ sym (at-is-in-tree .is-in-tree .ensures) ∙ not-true _ (c .if1 .taken) in
+    let next = tree-next n s most (at-loop .loop .i)
+    (omega (arith, at-loop-test .loop-test .taken, at-loop .loop .inv .0)) in
+    sym (and-stop _ _ next here) ∙ at-loop .loop .inv .1 s
 
 next-depth-requires : tie.Need-next-depth-requires Inv-loop μ-loop
-next-depth-requires c κs = in-tree-most _ (c .before .before .before .before .loop .most) (sym (c .before .is-in-tree .ensures) ∙ not-false _ (c .if1 .left))
+next-depth-requires c κs =
+    let at-is-in-tree = c .before in
+    let at-loop = at-is-in-tree .before .before .before in
+    in-tree-most _ (at-loop .loop .most) (sym (at-is-in-tree .is-in-tree .ensures) ∙ not-false _ (c .if1 .left))
 
 add-i : tie.Need-add-i Inv-loop μ-loop
 add-i c = search needs
@@ -59,16 +67,35 @@ loop-less c = search needs
 
 loop-again : tie.Need-loop-again Inv-loop μ-loop
 loop-again c =
-    let n = c .before .before .before .before .before .before .before .args .numbers .now in
-    let most = c .before .before .before .before .before .loop .most in
-    let i = c .before .before .before .before .before .loop .i in
-    let here = ap (λ (a : Avp). leb 1 (a .depth) && leb (a .depth) most && leb (a .depth) 4) (sym (c .before .before .before .get .ensures)) ∙ sym (c .before .before .is-in-tree .ensures) ∙ not-false _ (c .before .if1 .left) in
-    let next : (s : List ℕ) → c .next-depth .result ≡ nextDepth dictionary (cellIn s (avpAt n i)) = λ s. c .next-depth .ensures s ∙ ap (λ (a : Avp). nextDepth dictionary (cellIn s a)) (c .before .before .before .get .ensures) in
-    (c .before .before .before .before .before .loop .inv .0, λ s. ap (λ (d : ℕ). treeLeft n s d (i + 1)) (next s) ∙ sym (and-on _ _ (tree-next n s most i (omega (arith, c .before .before .before .before .loop-test .taken, c .before .before .before .before .before .loop .inv .0))) here) ∙ c .before .before .before .before .before .loop .inv .1 s)
+    let at-if1 = c .before in
+    let at-is-in-tree = at-if1 .before in
+    let at-get = at-is-in-tree .before in
+    let at-loop-test = at-get .before in
+    let at-loop = at-loop-test .before in
+    let start = at-loop .before .before in
+    let n = start .args .numbers .now in
+    let most = at-loop .loop .most in
+    let i = at-loop .loop .i in
+    let at = ap (λ (a : Avp). leb 1 (a .depth) && leb (a .depth) most && leb (a .depth) 4)
+    (sym (at-get .get .ensures)) in
+    let here = at ∙ sym (at-is-in-tree .is-in-tree .ensures) ∙ not-false _ (at-if1 .if1 .left) in
+    let depth : (s : List ℕ) → c .next-depth .result ≡ nextDepth dictionary (cellIn s (avpAt n i)) =
+    λ s. c .next-depth .ensures s ∙ ap (λ (a : Avp). nextDepth dictionary (cellIn s a)) (at-get .get .ensures) in
+    let used : i < min (countOf n) 256 = omega (arith, at-loop-test .loop-test .taken, at-loop .loop .inv .0) in (
+      at-loop .loop .inv .0,
+      λ s.
+          ap (λ (d : ℕ). treeLeft n s d (i + 1)) (depth s)
+          ∙ sym (and-on _ _ (tree-next n s most i used) here)
+          ∙ at-loop .loop .inv .1 s,
+    )
 
 returns-2 : tie.Need-returns-2 Inv-loop μ-loop
 returns-2 c s =
-    sym (tree-end (c .before .before .before .args .numbers .now) s (c .before .loop .most) (c .before .loop .i) (omega (arith, c .loop-test .left, c .before .loop .inv .0))) ∙ c .before .loop .inv .1 s
+    let at-loop = c .before in
+    let start = at-loop .before .before in
+    let l = at-loop .loop in
+    sym (tree-end (start .args .numbers .now) s (l .most) (l .i) (omega (arith, c .loop-test .left, l .inv .0))) ∙ l
+    .inv .1 s
 
 pub is-tree-spec : {M : Type 1} → statement M
 is-tree-spec =

@@ -3,9 +3,6 @@ use borrow.Author.Needs.{needs}
 use mathlib.Core.Path.{sym, _∙_}
 use Rattle.writer.proofs.draft.next_depth.Statement.{statement}
 use Rattle.writer.proofs.draft.next_depth.Tie as tie
-use Rattle.writer.proofs.draft.next_depth.Reads as reads
-use Rattle.writer.proofs.draft.next_depth.Lts as lts
-use Rattle.dictionary.proofs.is_read_group.Reads as is-read-group-reads
 
 is-read-group-requires : tie.Need-is-read-group-requires
 is-read-group-requires c κs = search needs

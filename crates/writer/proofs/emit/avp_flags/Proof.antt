@@ -3,9 +3,6 @@ use borrow.Author.Needs.{needs}
 use Rattle.rules.specs.Writer.{avpFlags}
 use Rattle.writer.proofs.emit.avp_flags.Statement.{statement}
 use Rattle.writer.proofs.emit.avp_flags.Tie as tie
-use Rattle.writer.proofs.emit.avp_flags.Reads as reads
-use Rattle.writer.proofs.emit.avp_flags.Lts as lts
-use Rattle.writer.proofs.emit.flag.Reads as flag-reads
 
 flag-requires : tie.Need-flag-requires
 flag-requires c κs = search needs

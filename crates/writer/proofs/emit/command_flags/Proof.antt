@@ -3,10 +3,6 @@ use borrow.Author.Needs.{needs}
 use Rattle.rules.specs.Writer.{flagsOctet}
 use Rattle.writer.proofs.emit.command_flags.Statement.{statement}
 use Rattle.writer.proofs.emit.command_flags.Tie as tie
-use Rattle.writer.proofs.emit.command_flags.Reads as reads
-use Rattle.writer.proofs.emit.command_flags.Lts as lts
-use Rattle.numbers.proofs.head_of.Reads as head-of-reads
-use Rattle.writer.proofs.emit.flag.Reads as flag-reads
 
 head-of-requires : tie.Need-head-of-requires
 head-of-requires c κs = search needs
@@ -34,7 +30,11 @@ add-result-3 c = search needs
 
 returns : tie.Need-returns
 unfolding flagsOctet
-returns c s = rw (c .before .before .before .flag .ensures .is, c .before .before .flag2 .ensures .is, c .before .flag3 .ensures .is, c .flag4 .ensures .is, c .before .before .before .before .head-of .ensures)
+returns c s =
+    let one = c .before .before .before .flag .ensures .is in
+    let two = c .before .before .flag2 .ensures .is in
+    let three = c .before .flag3 .ensures .is in
+    rw (one, two, three, c .flag4 .ensures .is, c .before .before .before .before .head-of .ensures)
 
 pub command-flags-spec : {M : Type 1} → statement M
 command-flags-spec =

@@ -1,16 +1,14 @@
 -- `writer::emit::put_command` meets its contract.
 use borrow.Author.Needs.{needs}
-use native.Mathlib.Omega.{arith}
 use Rattle.writer.proofs.Commands.{command-put}
 use Rattle.writer.proofs.emit.put_command.Statement.{statement}
 use Rattle.writer.proofs.emit.put_command.Tie as tie
-use Rattle.writer.proofs.emit.put_command.Reads as reads
-use Rattle.writer.proofs.emit.put_command.Lts as lts
-use Rattle.writer.proofs.emit.put_command_header.Reads as put-command-header-reads
-use Rattle.writer.proofs.emit.put_list.Reads as put-list-reads
 
-put-command-header-requires : tie.Need-put-command-header-requires
-put-command-header-requires c κs = search needs
+put-start-requires : tie.Need-put-start-requires
+put-start-requires c κs = search needs
+
+put-identifiers-requires : tie.Need-put-identifiers-requires
+put-identifiers-requires c κs = search needs
 
 put-list-requires : tie.Need-put-list-requires
 put-list-requires c κs = search needs
@@ -20,8 +18,16 @@ same-length c = search needs
 
 returns : tie.Need-returns
 returns c =
-    command-put (c .before .before .before .before .before .before .before .before .before .before .args .numbers .now) (c .before .before .before .before .before .before .before .before .before .before .args .s .now) (c .before .before .before .before .before .before .before .before .before .before .args .out .now) (c .before .before .before .before .before .before .before .before .before .before .args .size) (c .before .before .before .before .before .before .before .before .before .before .pre .long) _ (c .before .before .before .before .before .before .put-command-header .ensures) _ (c .before .before .put-list .ensures)
+    let at-put-list = c .before .before in
+    let at-put-identifiers = at-put-list .before .before .before .before in
+    let at-put-start = at-put-identifiers .before .before .before .before in
+    let start = at-put-start .before .before .before .before in
+    let a = start .args in
+    command-put (a .numbers .now) (a .s .now) (a .out .now) (a .size) (start .pre .long)
+    _ (at-put-start .put-start .ensures) _ (at-put-identifiers .put-identifiers .ensures) _
+    (at-put-list .put-list .ensures)
 
 pub put-command-spec : {M : Type 1} → statement M
 put-command-spec =
-    tie.close (tie.spec put-command-header-requires put-list-requires same-length returns)
+    tie.close
+    (tie.spec put-start-requires put-identifiers-requires put-list-requires same-length returns)

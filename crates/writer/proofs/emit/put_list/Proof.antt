@@ -8,14 +8,10 @@ use Rattle.numbers.specs.Numbers.{countOf}
 use Rattle.writer.proofs.Listing.{Left, left-all, left-end, left-can, left-next}
 use Rattle.writer.proofs.emit.put_list.Statement.{statement}
 use Rattle.writer.proofs.emit.put_list.Tie as tie
-use Rattle.writer.proofs.emit.put_list.Reads as reads
-use Rattle.writer.proofs.emit.put_list.Lts as lts
-use Rattle.numbers.proofs.get.Reads as get-reads
-use Rattle.numbers.proofs.used.Reads as used-reads
-use Rattle.writer.proofs.emit.put_avp.Reads as put-avp-reads
 
 abbrev Inv-loop : tie.InvT-loop
-Inv-loop out₀ numbers s used at₀ i₀ out at i = (used ≡ min (countOf numbers) 256) × ((length out ≡ length out₀) × Left numbers s out₀ out at i)
+Inv-loop out₀ numbers s used at₀ i₀ out at i =
+    (used ≡ min (countOf numbers) 256) × ((length out ≡ length out₀) × Left numbers s out₀ out at i)
 
 abbrev μ-loop : tie.MeasureT-loop
 μ-loop out₀ numbers s used at₀ i₀ out at i = used - i
@@ -25,8 +21,9 @@ used-requires c κs = search needs
 
 loop-holds : tie.Need-loop-holds Inv-loop μ-loop
 loop-holds c =
-    let a = c .before .before .before .args in
-    (c .used .ensures, (search needs, left-all (a .numbers .now) (a .s .now) (a .out .now) (c .before .before .before .pre)))
+    let start = c .before .before .before in
+    let a = start .args in
+    (c .used .ensures, (search needs, left-all (a .numbers .now) (a .s .now) (a .out .now) (start .pre)))
 
 get-requires : tie.Need-get-requires Inv-loop μ-loop
 get-requires c κs = omega arith
@@ -35,7 +32,8 @@ put-avp-requires : tie.Need-put-avp-requires Inv-loop μ-loop
 put-avp-requires c κs =
     let a = c .before .before .before .before .before .before .before .args in
     let l = c .before .before .before .loop in
-    left-can (a .numbers .now) (a .s .now) (a .out .now) (l .out) (l .at) (l .i) (l .inv .1 .1) (omega (arith, c .before .before .loop-test .taken, l .inv .0)) (c .get .result) (c .get .ensures)
+    left-can (a .numbers .now) (a .s .now) (a .out .now) (l .out) (l .at) (l .i) (l .inv .1 .1)
+    (omega (arith, c .before .before .loop-test .taken, l .inv .0)) (c .get .result) (c .get .ensures)
 
 add-i : tie.Need-add-i Inv-loop μ-loop
 add-i c = search needs
@@ -45,9 +43,17 @@ loop-less c = search needs
 
 loop-again : tie.Need-loop-again Inv-loop μ-loop
 loop-again c =
-    let a = c .before .before .before .before .before .before .before .before .before .before .args in
-    let l = c .before .before .before .before .before .before .loop in
-    (l .inv .0, (omega arith, left-next (a .numbers .now) (a .s .now) (a .out .now) (l .out) (l .at) (l .i) (l .inv .1 .1) (omega (arith, c .before .before .before .before .before .loop-test .taken, l .inv .0)) (c .before .before .before .get .result) (c .before .before .before .get .ensures) _ _ (c .before .before .put-avp .ensures)))
+    let at-put-avp = c .before .before in
+    let at-get = at-put-avp .before in
+    let at-loop-test = at-get .before .before in
+    let at-loop = at-loop-test .before in
+    let start = at-loop .before .before .before .before in
+    let a = start .args in
+    let l = at-loop .loop in
+    let next = left-next (a .numbers .now) (a .s .now) (a .out .now) (l .out) (l .at) (l .i) (l .inv .1 .1)
+    (omega (arith, at-loop-test .loop-test .taken, l .inv .0)) (at-get .get .result) (at-get .get .ensures) _ _
+    (at-put-avp .put-avp .ensures) in
+    (l .inv .0, (omega arith, next))
 
 same-length : tie.Need-same-length Inv-loop μ-loop
 same-length c = search needs
@@ -56,7 +62,8 @@ returns : tie.Need-returns Inv-loop μ-loop
 returns c =
     let a = c .before .before .before .before .before .args in
     let l = c .before .loop in
-    left-end (a .numbers .now) (a .s .now) (a .out .now) (l .out) (l .at) (l .i) (l .inv .1 .1) (omega (arith, c .loop-test .left, l .inv .0))
+    left-end (a .numbers .now) (a .s .now) (a .out .now) (l .out) (l .at) (l .i) (l .inv .1 .1)
+    (omega (arith, c .loop-test .left, l .inv .0))
 
 pub put-list-spec : {M : Type 1} → statement M
 put-list-spec =

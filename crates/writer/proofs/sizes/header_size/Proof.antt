@@ -2,8 +2,6 @@
 use borrow.Author.Tests.{eq-eqb, ne-eqb}
 use Rattle.writer.proofs.sizes.header_size.Statement.{statement}
 use Rattle.writer.proofs.sizes.header_size.Tie as tie
-use Rattle.writer.proofs.sizes.header_size.Reads as reads
-use Rattle.writer.proofs.sizes.header_size.Lts as lts
 
 returns : tie.Need-returns
 returns c = rw (eq-eqb _ 0 (c .if1 .taken))

@@ -1,18 +1,12 @@
 -- `writer::sizes::own_size` meets its contract.
 use borrow.Author.Needs.{needs}
-use mathlib.Core.Path.{_≡_, sym, _∙_}
-use Prim.Native.Nat.{_≤_}
+use mathlib.Core.Path.{sym, _∙_}
 use native.Mathlib.Omega.{arith}
 use Rattle.rules.proofs.Octets.{padded-near}
 use Rattle.writer.proofs.Cases.{header-most, own-group, own-part}
-use Rattle.rules.specs.Writer.{ownSize}
+use mathlib.Core.Path.{sym, _∙_}
 use Rattle.writer.proofs.sizes.own_size.Statement.{statement}
 use Rattle.writer.proofs.sizes.own_size.Tie as tie
-use Rattle.writer.proofs.sizes.own_size.Reads as reads
-use Rattle.writer.proofs.sizes.own_size.Lts as lts
-use Rattle.dictionary.proofs.is_read_group.Reads as is-read-group-reads
-use Rattle.octets.proofs.padded_length.Reads as padded-length-reads
-use Rattle.writer.proofs.sizes.header_size.Reads as header-size-reads
 
 header-size-requires : tie.Need-header-size-requires
 header-size-requires c κs = search needs
@@ -22,10 +16,14 @@ is-read-group-requires c κs = search needs
 
 returns : tie.Need-returns
 returns c =
-    let e = c .before .before .header-size .ensures in
+    let at-is-read-group = c .before in
+    let at-header-size = at-is-read-group .before in
+    let start = at-header-size .before in
+    let e = at-header-size .header-size .ensures in
+    let most = header-most (start .args .a .vendor) in
     record {
-      is = λ s. own-group s (c .before .before .before .args .a) (sym (c .before .is-read-group .ensures) ∙ c .if1 .taken) _ e;
-      small = omega (arith, e, header-most (c .before .before .before .args .a .vendor));
+      is = λ s. own-group s (start .args .a) (sym (at-is-read-group .is-read-group .ensures) ∙ c .if1 .taken) _ e;
+      small = omega arith;
     }
 
 cast-padded-length : tie.Need-cast-padded-length
@@ -35,16 +33,25 @@ padded-length-requires : tie.Need-padded-length-requires
 padded-length-requires c κs = search needs
 
 add-result : tie.Need-add-result
-add-result c = omega (arith, c .before .before .before .before .header-size .ensures, header-most (c .before .before .before .before .before .args .a .vendor), c .padded-length .ensures, padded-near (c .before .before .before .before .before .args .a .length))
+add-result c =
+    let most = header-most (c .before .before .before .before .before .args .a .vendor) in
+    let near = padded-near (c .before .before .before .before .before .args .a .length) in
+    omega (arith, c .before .before .before .before .header-size .ensures, c .padded-length .ensures)
 
 returns-2 : tie.Need-returns-2
 returns-2 c =
-    let e = c .before .before .before .before .header-size .ensures in
+    let at-struct-known = c .before in
+    let at-if1 = at-struct-known .before in
+    let at-is-read-group = at-if1 .before in
+    let at-header-size = at-is-read-group .before in
+    let start = at-header-size .before in
+    let e = at-header-size .header-size .ensures in
     let p = c .padded-length .ensures in
-    record {
-      is = λ s. own-part s (c .before .before .before .before .before .args .a) (sym (c .before .before .before .is-read-group .ensures) ∙ c .before .before .if1 .left) _ e _ p;
-      small = omega (arith, e, header-most (c .before .before .before .before .before .args .a .vendor), p, padded-near (c .before .before .before .before .before .args .a .length));
-    }
+    let most = header-most (start .args .a .vendor) in
+    let near = padded-near (start .args .a .length) in
+    let part = sym (at-is-read-group .is-read-group .ensures) ∙ at-if1 .if1 .left in
+    record
+    { is = λ s. own-part s (start .args .a) part _ e _ p; small = omega (arith, at-struct-known .struct-known .given) }
 
 pub own-size-spec : {M : Type 1} → statement M
 own-size-spec =
