@@ -1,4 +1,5 @@
--- Laws of octets that are written one after the other: a number's, by one law over the width, and a run, place by place.
+-- Laws of octets that are written one after the other: a number's, by one law over the width, and a run, place by
+-- place.
 use mathlib.Core.Path.{_≡_, refl, sym, ap, _∙_}
 use mathlib.Core.List.{List, [], _∷_, _++_}
 use Prim.Native.Nat.{ℕ, zero, suc, _+_, _-_, _/_, _%_, _^_, _≤_, _<_}

@@ -1,5 +1,5 @@
-// Big-endian numbers of 2, 3, 4 and 8 octets at a place of a slice, each by one law over the width. A number that does not
-// lie whole in the slice reads as 0, so each function that reads takes any place. And the length with padding.
+// Big-endian numbers of 2, 3, 4 and 8 octets at a place of a slice, each by one law over the width. A number that does
+// not lie whole in the slice reads as 0, so each function that reads takes any place. And the length with padding.
 ghost use mathlib.Core.Path.{_≡_};
 ghost use Prim.Native.Nat.{_<_};
 ghost use Rattle.rules.specs.Octets.{numberAt, IsNumber, padded};

@@ -1,5 +1,5 @@
-// Octets written from a place of a lent slice on: numbers of 3 and 4 octets, big-endian, by one law over the width; a run of
-// octets, and zeros. What stands before and behind is kept.
+// Octets written from a place of a lent slice on: numbers of 3 and 4 octets, big-endian, by one law over the width; a
+// run of octets, and zeros. What stands before and behind is kept.
 ghost use mathlib.Core.Path.{_≡_};
 ghost use Prim.Native.Nat.{_+_, _≤_};
 ghost use lib.ListN.{length, replicate};

@@ -11,7 +11,7 @@ use Rattle.rules.specs.Avp.{endOf}
 use Rattle.rules.specs.Dictionary.{dictionary}
 use Rattle.rules.specs.Record.{recorded}
 use Rattle.rules.specs.Meaning.{Cell, cellOf, isReadGroup}
-use Rattle.rules.specs.Writer.{Draft, avpOctets, ownSize, sizeUnder}
+use Rattle.rules.specs.Writer.{Draft, avpOctets, listOctets, draftOctets, ownSize, sizeUnder}
 use Rattle.numbers.specs.Numbers.{recordOf}
 
 abbrev pub draftOf : Record → List ℕ → Draft
@@ -31,7 +31,14 @@ cells s xs = map (cellOf dictionary s) xs
 abbrev pub isGroupAvp : Avp → Bool
 isGroupAvp a = isReadGroup dictionary (a .vendor) (a .code)
 
--- a read group's length is that of its members, which stand before these AVPs end or go up
+-- the octets of the AVPs, and of the whole command
+abbrev pub listOf : List ℕ → List ℕ → List ℕ
+listOf numbers s = listOctets (cells s (drafted numbers))
+
+abbrev pub commandOf : List ℕ → List ℕ → List ℕ
+commandOf numbers s = draftOctets (draftOf (recordOf numbers) s)
+
+-- a read group's length is the size of its members, which are the first of the cells behind it
 abbrev pub hasSize : Avp → List Cell → Bool
 hasSize a cs = cond (isGroupAvp a) (eqb (a .length) (sizeUnder (a .depth) dictionary cs)) true
 

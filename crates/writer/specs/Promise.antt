@@ -1,5 +1,5 @@
--- The promises of the writer's functions: sizes and tests of a draft, octets put out, and what `write` answers and leaves.
--- What does not depend on a draft's octets is promised for all of them.
+-- The promises of the writer's functions: sizes and tests of a draft, octets put out, and what `write` answers and
+-- leaves. What does not depend on a draft's octets is promised for all of them.
 use mathlib.Core.Path.{_≡_}
 use Prim.Native.Nat.{ℕ, _+_, _≤_}
 use mathlib.Core.List.{List}
@@ -14,8 +14,8 @@ use Rattle.rules.specs.Dictionary.{dictionary}
 use Rattle.rules.specs.Verdict.{verdict}
 use Rattle.rules.specs.Command.{commandOutcome}
 use Rattle.rules.specs.Writer.{octets, avpOctets, listOctets, flagsOctet, draftMeaning, draftOctets, draftOutcome, ownSize, sizeUnder, writing, outputAfter}
-use Rattle.numbers.specs.Numbers.{recordOf}
-use Rattle.writer.specs.Drafts.{draftOf, drafted, cellIn, cells, Sized, AllSized}
+use Rattle.numbers.specs.Numbers.{recordOf, avpAt}
+use Rattle.writer.specs.Drafts.{draftOf, drafted, cellIn, cells, listOf, commandOf, hasSize, Sized, AllSized}
 
 -- the octets of an AVP with its padding, of a read group those of its header
 pub record IsOwnSize (a : Avp) (r : ℕ) : Type 0 where
@@ -26,6 +26,10 @@ pub record IsOwnSize (a : Avp) (r : ℕ) : Type 0 where
 pub record IsSizeUnder (numbers : List ℕ) (from depth r : ℕ) : Type 0 where
   pub is : (s : List ℕ) → r ≡ sizeUnder depth dictionary (cells s (drop from (drafted numbers)))
   pub small : r ≤ 1099511631360
+
+-- whether the AVP at a position, where it is a read group, has the length of its members
+abbrev pub HasSize : List ℕ → ℕ → Bool → Type 0
+HasSize numbers i r = (s : List ℕ) → r ≡ hasSize (avpAt numbers i) (cells s (drop (i + 1) (drafted numbers)))
 
 -- a flag's value where it is set
 pub record IsFlag (on : Bool) (value r : ℕ) : Type 0 where
@@ -45,7 +49,7 @@ pub record CanPut (out : List ℕ) (at : ℕ) (a : Avp) (s : List ℕ) : Type 0 
 -- the AVPs of a draft and the room that they take behind the header
 pub record CanPutAll (out numbers s : List ℕ) : Type 0 where
   pub sized : AllSized s (drafted numbers)
-  pub room : 20 + length (listOctets (cells s (drafted numbers))) ≤ length out
+  pub room : 20 + length (listOf numbers s) ≤ length out
 
 -- a header's first eight octets, for a command of this size, whatever the draft's octets
 pub record IsStart (before numbers : List ℕ) (size : ℕ) (after : List ℕ) : Type 0 where
@@ -62,16 +66,15 @@ identified before r =
 -- a draft's AVPs with the size of its command
 pub record CanPutCommand (out numbers s : List ℕ) (size : ℕ) : Type 0 where
   pub all : CanPutAll out numbers s
-  pub long : size ≡ 20 + length (listOctets (cells s (drafted numbers)))
+  pub long : size ≡ 20 + length (listOf numbers s)
 
 -- a draft that has passed the writer's own tests, and the length of its command
 pub record IsReady (numbers s out : List ℕ) (size : ℕ) : Type 0 where
   pub sized : AllSized s (drafted numbers)
-  pub long : size ≡ length (draftOctets (draftOf (recordOf numbers) s))
+  pub long : size ≡ length (commandOf numbers s)
   pub short : size ≤ 16384
   pub room : size ≤ length out
-  pub outcome : draftOutcome (draftOf (recordOf numbers) s) (length out)
-      ≡ commandOutcome (draftOctets (draftOf (recordOf numbers) s))
+  pub outcome : draftOutcome (draftOf (recordOf numbers) s) (length out) ≡ commandOutcome (commandOf numbers s)
 
 -- what `write` gives: the answer, and the output as it stands afterwards
 pub record IsWritten (r : Record) (s out : List ℕ) (w : Written) (after : List ℕ) : Type 0 where

@@ -1,15 +1,16 @@
-// 01, The record and the writer, 7006: the tests of a draft, one after the other. That identifiers, vendors and codes fit four
-// octets is so by their type.
+// 01, The record and the writer, 7006: the tests of a draft, one after the other. That identifiers, vendors and codes fit
+// four octets is so by their type.
 ghost use mathlib.Core.Path.{_≡_};
 ghost use mathlib.Core.Bool.{_&&_};
 ghost use mathlib.Core.List.{List};
-ghost use Prim.Native.Nat.{ℕ, _+_, _≤_, _<_};
+ghost use Prim.Native.Nat.{ℕ, _≤_, _<_};
 ghost use lib.Dec.{leb};
 ghost use lib.ListN.{length, drop};
 ghost use Rattle.rules.specs.Dictionary.{dictionary};
 ghost use Rattle.rules.specs.Writer.{isBlank, allBlank, isPlaced, allPlaced, nextDepth, isTree, hasSizes, isWellFormed};
-ghost use Rattle.numbers.specs.Numbers.{avpAt, recordOf};
-ghost use Rattle.writer.specs.Drafts.{draftOf, drafted, cellIn, cells, hasSize};
+ghost use Rattle.numbers.specs.Numbers.{recordOf};
+ghost use Rattle.writer.specs.Drafts.{draftOf, drafted, cellIn, cells};
+ghost use Rattle.writer.specs.Promise.{HasSize};
 use crate::sizes;
 use rules::Avp;
 use rules::limits;
@@ -120,7 +121,7 @@ fn is_tree(numbers: &[u32; 1799]) -> bool
 // A read group's length is that of its members with padding.
 fn has_size(numbers: &[u32; 1799], i: usize) -> bool
     requires { ⌜ i < 256 ⌝ }
-    ensures { λ r. ⌜ ((s : List ℕ) → r ≡ hasSize (avpAt (now (numbers .entry)) i) (cells s (drop (i + 1) (drafted (now (numbers .entry)))))) ⌝ }
+    ensures { λ r. ⌜ HasSize (now (numbers .entry)) i r ⌝ }
 {
     let a = numbers::get(numbers, i);
     if dictionary::is_read_group(a.vendor, a.code) {

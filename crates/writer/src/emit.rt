@@ -7,9 +7,9 @@ ghost use lib.Dec.{eqb};
 ghost use lib.ListN.{length};
 ghost use lib.Seq.{sets};
 ghost use Rattle.rules.specs.Avp.{headerOf};
-ghost use Rattle.rules.specs.Writer.{avpFlags, avpHeader, avpOctets, listOctets, flagsOctet, draftMeaning, draftOctets};
+ghost use Rattle.rules.specs.Writer.{avpFlags, avpHeader, avpOctets, flagsOctet, draftMeaning};
 ghost use Rattle.numbers.specs.Numbers.{recordOf};
-ghost use Rattle.writer.specs.Drafts.{draftOf, drafted, cellIn, cells};
+ghost use Rattle.writer.specs.Drafts.{draftOf, cellIn, listOf, commandOf};
 ghost use Rattle.writer.specs.Promise.{IsFlag, IsPut, CanPut, CanPutAll, IsStart, identified, CanPutCommand};
 use crate::sizes;
 use octets::put;
@@ -69,7 +69,7 @@ fn put_avp(out: &mut [u8], at: usize, a: Avp, s: &[u8]) -> usize
 // The AVPs of a draft, behind the header.
 fn put_list(out: &mut [u8], numbers: &[u32; 1799], s: &[u8])
     requires { ⌜ CanPutAll (now out) (now numbers) (now s) ⌝ }
-    ensures { λ _. ⌜ now (out .exit) ≡ sets (now (out .entry)) 20 (listOctets (cells (now (s .entry)) (drafted (now (numbers .entry))))) ⌝ }
+    ensures { λ _. ⌜ now (out .exit) ≡ sets (now (out .entry)) 20 (listOf (now (numbers .entry)) (now (s .entry))) ⌝ }
 {
     let used = numbers::used(numbers);
     let mut at = limits::HEADER_SIZE;
@@ -113,7 +113,7 @@ fn put_identifiers(out: &mut [u8], numbers: &[u32; 1799])
 // The command of a draft, of this size.
 pub(crate) fn put_command(out: &mut [u8], numbers: &[u32; 1799], s: &[u8], size: usize)
     requires { ⌜ CanPutCommand (now out) (now numbers) (now s) size ⌝ }
-    ensures { λ _. ⌜ now (out .exit) ≡ sets (now (out .entry)) 0 (draftOctets (draftOf (recordOf (now (numbers .entry))) (now (s .entry)))) ⌝ }
+    ensures { λ _. ⌜ now (out .exit) ≡ sets (now (out .entry)) 0 (commandOf (now (numbers .entry)) (now (s .entry))) ⌝ }
 {
     put_start(out, numbers, size);
     put_identifiers(out, numbers);

@@ -1,5 +1,5 @@
-// The writer of commands: from a draft, a record over lent octets, to a command in a lent output. A refused output stays as it
-// was, so the command is first put into an array of the longest command's size, and there the reader judges it.
+// The writer of commands: from a draft, a record over lent octets, to a command in a lent output. A refused output stays
+// as it was, so the command is first put into an array of the longest command's size, and there the reader judges it.
 ghost use mathlib.Core.Path.{_≡_};
 ghost use lib.ListN.{length};
 ghost use Rattle.numbers.specs.Numbers.{recordOf};
@@ -76,7 +76,8 @@ pub fn write_numbers(numbers: &[u32; 1799], s: &[u8], out: &mut [u8]) -> Written
     write_ready(numbers, s, out, size)
 }
 
-// Writes a draft: 7006, 7001 and 7004, then what the reader says of the octets; accepted, they stand at the output's start.
+// Writes a draft: 7006, 7001 and 7004, then what the reader says of the octets; accepted, they stand at the start of the
+// output.
 pub fn write(draft: Record, s: &[u8], out: &mut [u8]) -> Written
     ensures { λ r. ⌜ IsWritten draft (now (s .entry)) (now (out .entry)) r (now (out .exit)) ⌝ }
 {
