@@ -1,2 +1,3 @@
--- A record as numbers.
+-- A record as numbers, and whether its flags are flags.
 pub mod Numbers
+pub mod Flags

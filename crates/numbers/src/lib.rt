@@ -4,6 +4,7 @@ ghost use Prim.Native.Nat.{ℕ, _+_, _*_, _^_, _<_, min};
 ghost use lib.ListN.{length, getD};
 ghost use lib.Seq.{sets};
 ghost use Rattle.numbers.specs.Numbers.{headNumbers, avpNumbers, numbersOf, avpAt, countOf, recordOf, headOf};
+ghost use Rattle.numbers.specs.Flags.{headFlagsFit, avpFlagsFit, flagsFit};
 use rules::Avp;
 use rules::Record;
 use rules::limits;
@@ -112,6 +113,49 @@ pub fn head_of(numbers: &[u32; 1799]) -> Head
         hop_by_hop: numbers[4],
         end_to_end: numbers[5],
     }
+}
+
+fn head_flags_fit(numbers: &[u32; 1799]) -> bool
+    ensures { λ r. ⌜ r ≡ headFlagsFit (now (numbers .entry)) ⌝ }
+{
+    if 1 < numbers[0] {
+        return false;
+    }
+    if 1 < numbers[1] {
+        return false;
+    }
+    if 1 < numbers[2] {
+        return false;
+    }
+    numbers[3] <= 1
+}
+
+fn avp_flags_fit(numbers: &[u32; 1799], position: usize) -> bool
+    requires { ⌜ position < 256 ⌝ }
+    ensures { λ r. ⌜ r ≡ avpFlagsFit (now (numbers .entry)) position ⌝ }
+{
+    let at = position * 7 + 7;
+    if 1 < numbers[at + 3] {
+        return false;
+    }
+    numbers[at + 4] <= 1
+}
+
+// Whether each flag is 0 or 1.
+pub fn flags_fit(numbers: &[u32; 1799]) -> bool
+    ensures { λ r. ⌜ r ≡ flagsFit (now (numbers .entry)) ⌝ }
+{
+    if !head_flags_fit(numbers) {
+        return false;
+    }
+    let mut i: usize = 0;
+    while i < limits::MOST_AVPS {
+        if !avp_flags_fit(numbers, i) {
+            return false;
+        }
+        i += 1;
+    }
+    true
 }
 
 // How many numbers there are. A proof takes from here that each fits four octets, as its type says.

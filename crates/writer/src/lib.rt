@@ -16,7 +16,7 @@ mod emit;
 mod sizes;
 
 // A refusal of the writer's own: place, vendor, code and length are 0.
-fn refusal(number: u32) -> Written
+pub fn refusal(number: u32) -> Written
     ensures { λ r. ⌜ r ≡ refusal number ⌝ }
 {
     Written {
