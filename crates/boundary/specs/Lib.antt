@@ -1,2 +1,3 @@
--- What is read from a record as numbers.
+-- What is read from a record as numbers, and what is written of it.
 pub mod Parts
+pub mod Writes

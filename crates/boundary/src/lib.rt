@@ -1,9 +1,12 @@
-// The boundary for C and Rust callers: the verdict, the record as numbers, the data of a position, and the search.
+// The boundary for C and Rust callers: the verdict, the record as numbers, the data of a position, the search, and the
+// writer.
 // include/talazumir.h says the same in C's terms.
 ghost use mathlib.Core.Path.{_≡_};
 ghost use Rattle.reader.specs.Promise.{Judged};
 ghost use Rattle.boundary.specs.Parts.{IsRead, IsData, searchNumbers};
+ghost use Rattle.boundary.specs.Writes.{IsWrittenFrom};
 use rules::Verdict;
+use rules::Written;
 
 // A part of a slice, by its start and its length.
 #[repr(C)]
@@ -68,4 +71,15 @@ pub extern "C" fn talazumir_search(numbers: &[u32; 1799], vendor: u32, code: u32
         i += 1;
     }
     256
+}
+
+// Writes the draft whose record the numbers stand for; a flag that is neither 0 nor 1 is 7006.
+#[no_mangle]
+pub extern "C" fn talazumir_write(numbers: &[u32; 1799], s: &[u8], out: &mut [u8]) -> Written
+    ensures { λ r. ⌜ IsWrittenFrom (now (numbers .entry)) (now (s .entry)) (now (out .entry)) r (now (out .exit)) ⌝ }
+{
+    if !numbers::flags_fit(numbers) {
+        return writer::refusal(7006);
+    }
+    writer::write_numbers(numbers, s, out)
 }
