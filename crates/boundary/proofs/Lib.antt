@@ -1,3 +1,3 @@
--- The laws of a record as numbers: written whole and read back, and the data and the search of the record they stand for.
-pub mod Numbers
+-- The laws of the data and the search of the record that numbers stand for, and of the writer's two cases.
 mod Parts
+mod Writes

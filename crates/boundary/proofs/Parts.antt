@@ -11,9 +11,9 @@ use Rattle.rules.specs.declared.Avp.{Avp}
 use Rattle.rules.specs.Avp.{named}
 use Rattle.rules.specs.Search.{avpIn}
 use Rattle.reader.proofs.Places.{data-unused, data-outside, data-inside, searchLeft, search-all, search-end, search-here, search-later}
-use Rattle.boundary.specs.Numbers.{avpAt, countOf, recordOf}
+use Rattle.numbers.specs.Numbers.{avpAt, countOf, recordOf}
 use Rattle.boundary.specs.Parts.{part, noPart, partAt, IsData, positionOf, searchNumbers}
-use Rattle.boundary.proofs.Numbers.{avps-full, avp-in, count-in}
+use Rattle.numbers.proofs.Numbers.{avps-full, avp-in, count-in}
 
 module _ (numbers : List ℕ) (i : ℕ) (s : List ℕ) where
   pub part-unused : min (countOf numbers) 256 ≤ i → IsData numbers i s noPart

@@ -1,3 +1,3 @@
--- The record as numbers, and what is read from them.
-pub mod Numbers
+-- What is read from a record as numbers, and what is written of it.
 pub mod Parts
+pub mod Writes

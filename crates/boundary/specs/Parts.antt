@@ -15,7 +15,7 @@ use Rattle.rules.specs.declared.Outcome.the-variants.{Refused}
 use Rattle.rules.specs.Walk.{mostAvps}
 use Rattle.rules.specs.Command.{commandOutcome, commandVerdict}
 use Rattle.rules.specs.Record.{reading, dataAt, searchRecord}
-use Rattle.boundary.specs.Numbers.{numbersOf, avpAt, countOf, recordOf}
+use Rattle.numbers.specs.Numbers.{numbersOf, avpAt, countOf, recordOf}
 use Rattle.boundary.specs.declared.Part.{Part}
 
 abbrev pub part : ℕ → ℕ → Part

@@ -1,11 +1,12 @@
-// The boundary for C and Rust callers: the verdict, the record as numbers, the data of a position, and the search.
+// The boundary for C and Rust callers: the verdict, the record as numbers, the data of a position, the search, and the
+// writer.
 // include/talazumir.h says the same in C's terms.
 ghost use mathlib.Core.Path.{_≡_};
 ghost use Rattle.reader.specs.Promise.{Judged};
 ghost use Rattle.boundary.specs.Parts.{IsRead, IsData, searchNumbers};
+ghost use Rattle.boundary.specs.Writes.{IsWrittenFrom};
 use rules::Verdict;
-
-mod record;
+use rules::Written;
 
 // A part of a slice, by its start and its length.
 #[repr(C)]
@@ -28,7 +29,7 @@ pub extern "C" fn talazumir_read(s: &[u8], numbers: &mut [u32; 1799]) -> Verdict
     ensures { λ r. ⌜ IsRead (now (s .entry)) r (now (numbers .exit)) ⌝ }
 {
     let reading = reader::read(s);
-    record::put(numbers, reading.record);
+    numbers::put(numbers, reading.record);
     reading.verdict
 }
 
@@ -38,13 +39,13 @@ pub extern "C" fn talazumir_read(s: &[u8], numbers: &mut [u32; 1799]) -> Verdict
 pub extern "C" fn talazumir_data(numbers: &[u32; 1799], position: usize, s: &[u8]) -> Part
     ensures { λ r. ⌜ IsData (now (numbers .entry)) position (now (s .entry)) r ⌝ }
 {
-    if record::used(numbers) <= position {
+    if numbers::used(numbers) <= position {
         return Part {
             start: 0,
             length: 0,
         };
     }
-    let a = record::get(numbers, position);
+    let a = numbers::get(numbers, position);
     let start = a.start as usize;
     let length = a.length as usize;
     if s.len() < start + length {
@@ -61,13 +62,24 @@ pub extern "C" fn talazumir_data(numbers: &[u32; 1799], position: usize, s: &[u8
 pub extern "C" fn talazumir_search(numbers: &[u32; 1799], vendor: u32, code: u32) -> u32
     ensures { λ r. ⌜ r ≡ searchNumbers (now (numbers .entry)) vendor code ⌝ }
 {
-    let used = record::used(numbers);
+    let used = numbers::used(numbers);
     let mut i: usize = 0;
     while i < used {
-        if reader::is_found(record::get(numbers, i), vendor, code) {
+        if reader::is_found(numbers::get(numbers, i), vendor, code) {
             return i as u32;
         }
         i += 1;
     }
     256
+}
+
+// Writes the draft whose record the numbers stand for; a flag that is neither 0 nor 1 is 7006.
+#[no_mangle]
+pub extern "C" fn talazumir_write(numbers: &[u32; 1799], s: &[u8], out: &mut [u8]) -> Written
+    ensures { λ r. ⌜ IsWrittenFrom (now (numbers .entry)) (now (s .entry)) (now (out .entry)) r (now (out .exit)) ⌝ }
+{
+    if !numbers::flags_fit(numbers) {
+        return writer::refusal(7006);
+    }
+    writer::write_numbers(numbers, s, out)
 }

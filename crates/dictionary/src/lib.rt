@@ -2,6 +2,7 @@
 // `match` stands for one entry.
 ghost use mathlib.Core.Path.{_≡_};
 ghost use Rattle.rules.specs.Dictionary.{find, dictionary, membersOf};
+ghost use Rattle.rules.specs.Meaning.{isReadGroup};
 use rules::Definition;
 use rules::Form;
 use rules::Grammar;
@@ -148,4 +149,14 @@ pub fn members(vendor: u32, code: u32) -> Members
         kinds::VENDOR_3GPP => members_of_3gpp(code),
         _ => Members::NoMembers,
     }
+}
+
+// A name whose data is read as a list.
+pub fn is_read_group(vendor: u32, code: u32) -> bool
+    ensures { λ r. ⌜ r ≡ isReadGroup dictionary vendor code ⌝ }
+{
+    let Members::Under(_) = members(vendor, code) else {
+        return false;
+    };
+    true
 }

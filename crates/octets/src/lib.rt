@@ -1,6 +1,8 @@
-// Big-endian numbers of 2, 3, 4 and 8 octets at a place of a slice, each by one law over the width. A number that does not
-// lie whole in the slice reads as 0, so each function takes any place.
-ghost use Rattle.rules.specs.Octets.{numberAt, IsNumber};
+// Big-endian numbers of 2, 3, 4 and 8 octets at a place of a slice, each by one law over the width. A number that does
+// not lie whole in the slice reads as 0, so each function that reads takes any place. And the length with padding.
+ghost use mathlib.Core.Path.{_≡_};
+ghost use Prim.Native.Nat.{_≤_};
+ghost use Rattle.rules.specs.Octets.{numberAt, IsNumber, padded};
 
 fn wide(x: u8) -> u32
     ensures { λ r. ⌜ IsNumber 1 x r ⌝ }
@@ -55,4 +57,11 @@ pub fn number8(s: &[u8], at: usize) -> u64
     }
     let high = number4(s, at) as u64;
     high * 4294967296 + number4(s, at + 4) as u64
+}
+
+// A length with the padding to a multiple of four.
+pub fn padded_length(length: u32) -> usize
+    ensures { λ r. ⌜ (r ≡ padded length) × (r ≤ 4294967296) ⌝ }
+{
+    (length as usize + 3) / 4 * 4
 }

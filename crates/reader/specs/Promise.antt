@@ -30,6 +30,11 @@ pub record IsJudged (s before : List ℕ) (r : Judgement) (after : List ℕ) : T
   pub few : commandOutcome s ≡ Pass → r .count ≤ 256
   pub avps : commandOutcome s ≡ Pass → avpsIn after (r .count) ≡ avpsOf (walkOf s)
 
+-- what `outcome` gives
+pub record Settled (s before : List ℕ) (r : Outcome) (after : List ℕ) : Type 0 where
+  pub answer : r ≡ commandOutcome s
+  pub left : after ≡ logAfter s before
+
 -- what `verdict` gives
 pub record Judged (s before : List ℕ) (r : Verdict) (after : List ℕ) : Type 0 where
   pub answer : r ≡ commandVerdict s

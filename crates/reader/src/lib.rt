@@ -2,7 +2,7 @@
 ghost use mathlib.Core.Path.{_≡_};
 ghost use Rattle.rules.specs.Verdict.{verdict};
 ghost use Rattle.rules.specs.Record.{reading};
-ghost use Rattle.reader.specs.Promise.{Judged};
+ghost use Rattle.reader.specs.Promise.{Settled, Judged};
 use rules::Outcome;
 use rules::Reading;
 use rules::Verdict;
@@ -22,7 +22,7 @@ pub struct Judgement {
 }
 
 // Accepted: number, place, vendor and code 0.
-fn accepted() -> Verdict
+pub fn accepted() -> Verdict
     ensures { λ r. ⌜ r ≡ verdict 0 0 0 0 ⌝ }
 {
     Verdict {
@@ -33,12 +33,19 @@ fn accepted() -> Verdict
     }
 }
 
+// The outcome of a command's checks. The lent log is written anew from position 0 on.
+pub fn outcome(s: &[u8], log: &mut [u32; 1792]) -> Outcome
+    ensures { λ r. ⌜ Settled (now (s .entry)) (now (log .entry)) r (now (log .exit)) ⌝ }
+{
+    let judged = judge::judge(s, log);
+    judged.outcome
+}
+
 // The verdict of a command. The lent log is written anew from position 0 on, and makes a record needless.
 pub fn verdict(s: &[u8], log: &mut [u32; 1792]) -> Verdict
     ensures { λ r. ⌜ Judged (now (s .entry)) (now (log .entry)) r (now (log .exit)) ⌝ }
 {
-    let judged = judge::judge(s, log);
-    let outcome = judged.outcome;
+    let outcome = outcome(s, log);
     match outcome {
         Outcome::Pass => accepted(),
         Outcome::Refused(v) => v,

@@ -50,6 +50,7 @@ pub struct Reading {
 }
 
 // What writing a draft gives: the verdict, and how many octets were written, none with a refusal.
+#[repr(C)]
 pub struct Written {
     pub verdict: Verdict,
     pub length: u32,

@@ -2,11 +2,11 @@
 // rest of the list, so that one test of its length spares those of each number.
 ghost use mathlib.Core.Path.{_≡_};
 ghost use Prim.Native.Nat.{_≤_, _<_};
-ghost use Rattle.rules.specs.Octets.{padded};
 ghost use Rattle.rules.specs.Verdict.{verdict};
 ghost use Rattle.rules.specs.Avp.{avpAt};
 ghost use Rattle.rules.specs.Walk.{framing};
 ghost use Rattle.walk.specs.Promise.{InList, frameOf, misfit, avpBy, nextAfter};
+use octets::padded_length;
 use rules::Avp;
 use rules::Verdict;
 
@@ -16,20 +16,12 @@ pub(crate) enum Frame {
     Broken(Verdict),
 }
 
-// A length with the padding to a multiple of four.
-fn padded_length(length: usize) -> usize
-    requires { ⌜ length < 4294967296 ⌝ }
-    ensures { λ r. ⌜ r ≡ padded length ⌝ }
-{
-    (length + 3) / 4 * 4
-}
-
 // Where the AVP after this one stands.
 pub(crate) fn next_after(a: Avp) -> usize
     ensures { λ r. ⌜ r ≡ nextAfter a ⌝ }
 {
     let start = a.start as usize;
-    start + padded_length(a.length as usize)
+    start + padded_length(a.length)
 }
 
 // Check 2 refuses: the code is given where 8 octets are left, the vendor where 12 are.
@@ -53,7 +45,7 @@ fn misfits(left: usize, header: u32, length: u32) -> bool
     if length < header {
         return true;
     }
-    left < padded_length(length as usize)
+    left < padded_length(length)
 }
 
 // The AVP at a place by the fields of its header.

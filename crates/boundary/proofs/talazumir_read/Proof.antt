@@ -5,8 +5,8 @@ use lib.ListN.{length}
 use Rattle.reader.proofs.Places.{length-mapped}
 use Rattle.rules.specs.declared.Reading.{Reading}
 use Rattle.rules.specs.Record.{reading}
-use Rattle.boundary.specs.Numbers.{numbersOf, recordOf}
-use Rattle.boundary.proofs.Numbers.{numbers-refused, record-back}
+use Rattle.numbers.specs.Numbers.{numbersOf, recordOf}
+use Rattle.numbers.proofs.Numbers.{numbers-refused, record-back}
 use Rattle.boundary.proofs.talazumir_read.Statement.{statement}
 use Rattle.boundary.proofs.talazumir_read.Tie as tie
 

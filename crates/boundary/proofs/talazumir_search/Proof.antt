@@ -3,7 +3,7 @@ use borrow.Author.Needs.{needs}
 use mathlib.Core.Path.{_≡_, sym, _∙_}
 use Prim.Native.Nat.{_≤_, _-_, min}
 use native.Mathlib.Omega.{arith}
-use Rattle.boundary.specs.Numbers.{countOf}
+use Rattle.numbers.specs.Numbers.{countOf}
 use Rattle.boundary.specs.Parts.{searchNumbers}
 use Rattle.boundary.proofs.Parts.{positionLeft, position-all, position-end, position-here, position-later}
 use Rattle.boundary.proofs.talazumir_search.Statement.{statement}

@@ -11,7 +11,7 @@ padded-length-requires : tie.Need-padded-length-requires
 padded-length-requires c κs = search needs
 
 returns-2 : tie.Need-returns-2
-returns-2 c = rw (le-ltb _ _ (c .before .if1 .left), c .padded-length .ensures)
+returns-2 c = rw (le-ltb _ _ (c .before .if1 .left), c .padded-length .ensures .0)
 
 pub misfits-spec : {M : Type 1} → statement M
 misfits-spec = tie.close (tie.spec returns padded-length-requires returns-2)

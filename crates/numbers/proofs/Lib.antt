@@ -1,0 +1,3 @@
+-- The laws of a record as numbers, and of its flags.
+pub mod Numbers
+mod Flags

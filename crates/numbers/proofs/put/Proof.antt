@@ -1,0 +1,87 @@
+-- `numbers::put` meets its contract. With the AVPs from i on set, the numbers are those of the record.
+use borrow.Author.Needs.{needs}
+use mathlib.Core.Path.{_≡_, sym, ap, _∙_}
+use mathlib.Core.List.{List}
+use Prim.Native.Nat.{ℕ, _≤_, _+_, _-_}
+use native.Mathlib.Omega.{arith}
+use lib.ListN.{length}
+use Rattle.reader.proofs.Places.{length-mapped}
+use Rattle.numbers.specs.Numbers.{numbersOf}
+use Rattle.numbers.proofs.Numbers.{rest, rest-all, rest-next, rest-none}
+use Rattle.numbers.proofs.put.Statement.{statement}
+use Rattle.numbers.proofs.put.Tie as tie
+
+abbrev Inv-loop : tie.InvT-loop
+Inv-loop numbers₀ «record» i₀ numbers i = (i ≤ 256) × ((f : length («record» .avps) ≡ 256) → rest «record» f numbers i ≡ numbersOf «record»)
+
+abbrev μ-loop : tie.MeasureT-loop
+μ-loop numbers₀ «record» i₀ numbers i = 256 - i
+
+full : (st : tie.Start Inv-loop μ-loop) → length (st .args .t2 .avps) ≡ 256
+full st = search (needs, length-mapped)
+
+size-requires : tie.Need-size-requires Inv-loop μ-loop
+size-requires c κs = search needs
+
+put-head-requires : tie.Need-put-head-requires Inv-loop μ-loop
+put-head-requires c κs = search needs
+
+loop-holds : tie.Need-loop-holds Inv-loop μ-loop
+loop-holds c =
+    let h = c .before .before in
+    let a = h .before .before .args in (
+      omega arith,
+      λ f. ap (λ (l : List ℕ). rest (a .t2) f l 0) (c .put-head .ensures) ∙ rest-all (a .t2) f (a .numbers .now) (h .size .ensures .1),
+    )
+
+mul-put-avp : tie.Need-mul-put-avp Inv-loop μ-loop
+mul-put-avp c = omega arith
+
+element-copy-out-put-avp : tie.Need-element-copy-out-put-avp Inv-loop μ-loop
+element-copy-out-put-avp c = omega arith
+
+put-avp-requires : tie.Need-put-avp-requires Inv-loop μ-loop
+put-avp-requires c κs = omega arith
+
+add-i : tie.Need-add-i Inv-loop μ-loop
+add-i c = omega arith
+
+loop-less : tie.Need-loop-less Inv-loop μ-loop
+loop-less c = omega arith
+
+loop-again : tie.Need-loop-again Inv-loop μ-loop
+loop-again c =
+    let l = c .before .before .before .before .loop in
+    let st = c .before .before .before .before .before .before .before .before .before in
+    let r = st .args .t2 in (
+      omega arith,
+      λ f.
+          ap (λ (n : List ℕ). rest r f n (l .i + 1)) (c .put-avp .ensures)
+          ∙ sym (rest-next r f (l .numbers) (l .i) (omega arith))
+          ∙ l .inv .1 f,
+    )
+
+returns : tie.Need-returns Inv-loop μ-loop
+returns c =
+    let l = c .before .loop in
+    let st = c .before .before .before .before .before .before in
+    let r = st .args .t2 in
+    let f = full st in
+    sym (rest-none r f (l .numbers) (l .i) (omega arith)) ∙ l .inv .1 f
+
+pub put-spec : {M : Type 1} → statement M
+put-spec =
+    tie.close
+    (tie.spec
+    Inv-loop
+    μ-loop
+    size-requires
+    put-head-requires
+    loop-holds
+    mul-put-avp
+    element-copy-out-put-avp
+    put-avp-requires
+    add-i
+    loop-less
+    loop-again
+    returns)

@@ -1,0 +1,60 @@
+-- `numbers::put_head` meets its contract.
+use borrow.Author.Needs.{needs}
+use Rattle.numbers.proofs.put_head.Statement.{statement}
+use Rattle.numbers.proofs.put_head.Tie as tie
+
+bit-of-requires : tie.Need-bit-of-requires
+bit-of-requires c κs = search needs
+
+element-write-numbers : tie.Need-element-write-numbers
+element-write-numbers c = search needs
+
+bit-of-requires-2 : tie.Need-bit-of-requires-2
+bit-of-requires-2 c κs = search needs
+
+element-write-numbers-2 : tie.Need-element-write-numbers-2
+element-write-numbers-2 c = search needs
+
+bit-of-requires-3 : tie.Need-bit-of-requires-3
+bit-of-requires-3 c κs = search needs
+
+element-write-numbers-3 : tie.Need-element-write-numbers-3
+element-write-numbers-3 c = search needs
+
+bit-of-requires-4 : tie.Need-bit-of-requires-4
+bit-of-requires-4 c κs = search needs
+
+element-write-numbers-4 : tie.Need-element-write-numbers-4
+element-write-numbers-4 c = search needs
+
+element-write-numbers-5 : tie.Need-element-write-numbers-5
+element-write-numbers-5 c = search needs
+
+element-write-numbers-6 : tie.Need-element-write-numbers-6
+element-write-numbers-6 c = search needs
+
+element-write-numbers-7 : tie.Need-element-write-numbers-7
+element-write-numbers-7 c = search needs
+
+returns : tie.Need-returns
+returns c =
+    let e3 = c .before in
+    let e2 = e3 .before in
+    rw (e2 .before .bit-of .ensures, e2 .bit-of2 .ensures, e3 .bit-of3 .ensures, c .bit-of4 .ensures)
+
+pub put-head-spec : {M : Type 1} → statement M
+put-head-spec =
+    tie.close
+    (tie.spec
+    bit-of-requires
+    element-write-numbers
+    bit-of-requires-2
+    element-write-numbers-2
+    bit-of-requires-3
+    element-write-numbers-3
+    bit-of-requires-4
+    element-write-numbers-4
+    element-write-numbers-5
+    element-write-numbers-6
+    element-write-numbers-7
+    returns)

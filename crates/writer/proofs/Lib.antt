@@ -1,0 +1,10 @@
+-- The laws behind the writer's proofs.
+mod Cases
+mod Puts
+mod Positions
+mod Putting
+mod Listing
+mod Commands
+mod Lengths
+mod Answers
+mod Formed

@@ -1,0 +1,38 @@
+-- `writer::write` meets its contract: the numbers stand for the draft's record.
+use borrow.Author.Needs.{needs}
+use mathlib.Core.Path.{_≡_, ap, subst, _∙_}
+use lib.ListN.{length}
+use Rattle.rules.specs.declared.Record.{Record}
+use Rattle.numbers.specs.Numbers.{recordOf}
+use Rattle.numbers.proofs.Numbers.{record-back}
+use Rattle.reader.proofs.Places.{length-mapped}
+use Rattle.writer.specs.Promise.{IsWritten}
+use mathlib.Core.Path.{_≡_, ap, _∙_}
+use Rattle.writer.proofs.write.Statement.{statement}
+use Rattle.writer.proofs.write.Tie as tie
+
+full : (st : tie.Start) → length (st .args .draft .avps) ≡ 256
+full st = search (needs, length-mapped)
+
+put-requires : tie.Need-put-requires
+put-requires c κs = search needs
+
+write-numbers-requires : tie.Need-write-numbers-requires
+write-numbers-requires c κs = search needs
+
+same-length : tie.Need-same-length
+same-length c = search needs
+
+returns : tie.Need-returns
+returns c =
+    let at-write-numbers = c .before .before in
+    let at-put = at-write-numbers .before .before .before in
+    let start = at-put .before .before .before .before in
+    let a = start .args in
+    let same = ap recordOf (at-put .put .ensures) ∙ record-back (a .draft) (full (start)) in
+    let w = at-write-numbers .write-numbers in
+    let is : Record → Type 0 = λ r. IsWritten r (a .s .now) (a .out .now) (w .result) (w .last .1 .1 .0) in
+    subst is same (w .ensures)
+
+pub write-spec : {M : Type 1} → statement M
+write-spec = tie.close (tie.spec put-requires write-numbers-requires same-length returns)

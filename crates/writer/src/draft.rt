@@ -1,0 +1,167 @@
+// 01, The record and the writer, 7006: the tests of a draft, one after the other. That identifiers, vendors and codes fit
+// four octets is so by their type.
+ghost use mathlib.Core.Path.{_≡_};
+ghost use mathlib.Core.Bool.{_&&_};
+ghost use mathlib.Core.List.{List};
+ghost use Prim.Native.Nat.{ℕ, _≤_, _<_};
+ghost use lib.Dec.{leb};
+ghost use lib.ListN.{length, drop};
+ghost use Rattle.rules.specs.Dictionary.{dictionary};
+ghost use Rattle.rules.specs.Writer.{isBlank, allBlank, isPlaced, allPlaced, nextDepth, isTree, hasSizes, isWellFormed};
+ghost use Rattle.numbers.specs.Numbers.{recordOf};
+ghost use Rattle.writer.specs.Drafts.{draftOf, drafted, cellIn, cells};
+ghost use Rattle.writer.specs.Promise.{HasSize};
+use crate::sizes;
+use rules::Avp;
+use rules::limits;
+
+// An unused place is all 0.
+fn is_blank(a: Avp) -> bool
+    ensures { λ r. ⌜ r ≡ isBlank a ⌝ }
+{
+    if a.depth != 0 {
+        return false;
+    }
+    if a.vendor != 0 {
+        return false;
+    }
+    if a.code != 0 {
+        return false;
+    }
+    if a.m {
+        return false;
+    }
+    if a.p {
+        return false;
+    }
+    if a.start != 0 {
+        return false;
+    }
+    a.length == 0
+}
+
+fn are_blank(numbers: &[u32; 1799], from: usize) -> bool
+    ensures { λ r. ⌜ r ≡ allBlank (drop from (recordOf (now (numbers .entry)) .avps)) ⌝ }
+{
+    let mut i = from;
+    while i < limits::MOST_AVPS {
+        if !is_blank(numbers::get(numbers, i)) {
+            return false;
+        }
+        i += 1;
+    }
+    true
+}
+
+// The data part of an AVP that is no read group lies in the octets.
+fn is_placed(a: Avp, size: usize) -> bool
+    ensures { λ r. ⌜ r ≡ isPlaced dictionary size a ⌝ }
+{
+    if dictionary::is_read_group(a.vendor, a.code) {
+        return true;
+    }
+    a.start as usize + a.length as usize <= size
+}
+
+fn are_placed(numbers: &[u32; 1799], size: usize) -> bool
+    ensures { λ r. ⌜ r ≡ allPlaced dictionary size (drafted (now (numbers .entry))) ⌝ }
+{
+    let used = numbers::used(numbers);
+    let mut i: usize = 0;
+    while i < used {
+        if !is_placed(numbers::get(numbers, i), size) {
+            return false;
+        }
+        i += 1;
+    }
+    true
+}
+
+// A depth from 1 on, no greater than what may follow, and at most 4.
+fn is_in_tree(depth: u32, most: u32) -> bool
+    ensures { λ r. ⌜ r ≡ (leb 1 depth && leb depth most && leb depth 4) ⌝ }
+{
+    if depth < 1 {
+        return false;
+    }
+    if most < depth {
+        return false;
+    }
+    depth <= 4
+}
+
+// The greatest depth that may follow an AVP: one more only after a read group.
+fn next_depth(a: Avp) -> u32
+    requires { ⌜ a .depth ≤ 4 ⌝ }
+    ensures { λ r. ⌜ ((s : List ℕ) → r ≡ nextDepth dictionary (cellIn s a)) ⌝ }
+{
+    if dictionary::is_read_group(a.vendor, a.code) {
+        return a.depth + 1;
+    }
+    a.depth
+}
+
+fn is_tree(numbers: &[u32; 1799]) -> bool
+    ensures { λ r. ⌜ ((s : List ℕ) → r ≡ isTree 1 dictionary (cells s (drafted (now (numbers .entry))))) ⌝ }
+{
+    let used = numbers::used(numbers);
+    let mut most: u32 = 1;
+    let mut i: usize = 0;
+    while i < used {
+        let a = numbers::get(numbers, i);
+        if !is_in_tree(a.depth, most) {
+            return false;
+        }
+        most = next_depth(a);
+        i += 1;
+    }
+    true
+}
+
+// A read group's length is that of its members with padding.
+fn has_size(numbers: &[u32; 1799], i: usize) -> bool
+    requires { ⌜ i < 256 ⌝ }
+    ensures { λ r. ⌜ HasSize (now (numbers .entry)) i r ⌝ }
+{
+    let a = numbers::get(numbers, i);
+    if dictionary::is_read_group(a.vendor, a.code) {
+        let length = a.length as usize;
+        return length == sizes::size_under(numbers, i + 1, a.depth);
+    }
+    true
+}
+
+fn has_sizes(numbers: &[u32; 1799]) -> bool
+    ensures { λ r. ⌜ ((s : List ℕ) → r ≡ hasSizes dictionary (cells s (drafted (now (numbers .entry))))) ⌝ }
+{
+    let used = numbers::used(numbers);
+    let mut i: usize = 0;
+    while i < used {
+        if !has_size(numbers, i) {
+            return false;
+        }
+        i += 1;
+    }
+    true
+}
+
+// A draft that is not 7006.
+pub(crate) fn is_well_formed(numbers: &[u32; 1799], s: &[u8]) -> bool
+    ensures { λ r. ⌜ r ≡ isWellFormed (draftOf (recordOf (now (numbers .entry))) (now (s .entry))) ⌝ }
+{
+    numbers::length(numbers);
+    let count = numbers::count(numbers);
+    if limits::MOST_AVPS < count {
+        return false;
+    }
+    if !are_blank(numbers, count) {
+        return false;
+    }
+    if !are_placed(numbers, s.len()) {
+        return false;
+    }
+    if !is_tree(numbers) {
+        return false;
+    }
+    has_sizes(numbers)
+}
