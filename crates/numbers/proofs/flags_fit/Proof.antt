@@ -23,7 +23,7 @@ returns c =
     let at-head-flags-fit = c .before in
     let start = at-head-flags-fit .before in
     fit-head-not (start .args .numbers .now)
-        (sym (at-head-flags-fit .head-flags-fit .ensures) ∙ not-true _ (c .if1 .taken))
+    (sym (at-head-flags-fit .head-flags-fit .ensures) ∙ not-true _ (c .if1 .taken))
 
 loop-holds : tie.Need-loop-holds Inv-loop μ-loop
 loop-holds c =
@@ -42,7 +42,7 @@ returns-2 c =
     let start = at-loop .before .before .before in
     let here = sym (at-avp-flags-fit .avp-flags-fit .ensures) ∙ not-true _ (c .if2 .taken) in
     sym (fit-stop (start .args .numbers .now) (at-loop .loop .i) (at-loop-test .loop-test .taken) here) ∙ at-loop
-        .loop .inv .1
+    .loop .inv .1
 
 add-i : tie.Need-add-i Inv-loop μ-loop
 add-i c = search needs
