@@ -1,4 +1,4 @@
-/* Talazumir: the proved reader of Nt commands, for C callers. Link with target/staticlib/libboundary.a, which
+/* Talazumir: the proved reader and writer of Nt commands, for C callers. Link with target/staticlib/libboundary.a, which
  * `rt staticlib boundary` proves and builds (x86-64 Linux).
  *
  * Each function has one answer for every content of what it is handed; there is no error besides the answers below. What
@@ -60,8 +60,9 @@ extern "C" {
  *   5014  AVP length                  5015  command length
  *   7001  longer than 16,384 octets   7002  257th AVP
  *   7003  group at depth 4            7005  error answer
+ *   7004  output without room         7006  draft not well formed
  *
- * The place is the first octet of the AVP at fault; for 5005 the end of the list that lacks the AVP, with the missing
+ * 7004 and 7006 are the writer's alone. The place is the first octet of the AVP at fault; for 5005 the end of the list that lacks the AVP, with the missing
  * vendor and code. Header refusals and 7002 have vendor and code 0. */
 struct TalazumirVerdict {
     uint32_t number;
@@ -74,6 +75,12 @@ struct TalazumirVerdict {
 struct TalazumirPart {
     size_t start;
     size_t length;
+};
+
+/* What writing gives: the verdict, and how many octets were written, 0 with a refusal. */
+struct TalazumirWritten {
+    struct TalazumirVerdict verdict;
+    uint32_t length;
 };
 
 /* The verdict of the command that is the whole slice. The log is written from its first number on with the AVPs that the
@@ -93,6 +100,15 @@ struct TalazumirPart talazumir_data(const uint32_t record[TALAZUMIR_RECORD_NUMBE
 /* The position of the first AVP at depth 1 with this vendor and code, TALAZUMIR_NONE exactly where there is none, for
  * whatever numbers the record holds. */
 uint32_t talazumir_search(const uint32_t record[TALAZUMIR_RECORD_NUMBERS], uint32_t vendor, uint32_t code);
+
+/* Writes a draft, a record over octets, as a command into the output: V is set where the vendor is not 0, padding and
+ * reserved bits are 0. In this order: 7006 where the count exceeds 256, a number of an unused position is not 0, a flag is
+ * neither 0 nor 1, the data of an AVP that is no read group leaves the octets, the depths form no tree, or a read group's
+ * length is not that of its members; 7001 where the command would exceed 16,384 octets; 7004 where the output has no room
+ * for it; then the verdict of talazumir_verdict on the command. Place, vendor and code are 0 for the first three. Accepted,
+ * the command stands at the output's start, and the octets behind it are as they were; refused, all are. */
+struct TalazumirWritten talazumir_write(const uint32_t record[TALAZUMIR_RECORD_NUMBERS], const uint8_t *octets, size_t length,
+                                        uint8_t *output, size_t room);
 
 #ifdef __cplusplus
 }

@@ -1,4 +1,5 @@
-/* Reads document 01's commands S, S without its last AVP, and H through the boundary, and prints what comes back. */
+/* Reads document 01's commands S, S without its last AVP, and H through the boundary, writes drafts made from S, and prints
+ * what comes back. */
 #include <inttypes.h>
 #include <stdio.h>
 #include <string.h>
@@ -58,6 +59,31 @@ static size_t used(const uint32_t *numbers, size_t count) {
     return n;
 }
 
+static uint8_t output[200];
+
+/* Writes the record over S into the first `room` octets of an output that holds 0xEE throughout. */
+static void print_written(const char *name, size_t room) {
+    memset(output, 0xEE, sizeof output);
+    struct TalazumirWritten w = talazumir_write(record, S, sizeof S, output, room);
+    size_t same = 0;
+    while (same < sizeof S && output[same] == S[same]) {
+        same++;
+    }
+    size_t kept = sizeof output;
+    while (kept > 0 && output[kept - 1] == 0xEE) {
+        kept--;
+    }
+    printf("%s into %zu: %" PRIu32 " %" PRIu32 " %" PRIu32 " %" PRIu32 ", length %" PRIu32 "; as S up to %zu, altered up to %zu\n",
+           name, room, w.verdict.number, w.verdict.place, w.verdict.vendor, w.verdict.code, w.length, same, kept);
+}
+
+/* The record of S with one number altered. */
+static void print_altered(const char *name, size_t index, uint32_t number) {
+    talazumir_read(S, sizeof S, record);
+    record[index] = number;
+    print_written(name, sizeof output);
+}
+
 int main(void) {
     memset(record, 0xFF, sizeof record);
     print_verdict("S", talazumir_read(S, sizeof S, record));
@@ -98,5 +124,25 @@ int main(void) {
     h[3] = sizeof h;
     print_verdict("H", talazumir_verdict(h, sizeof h, log_numbers));
     print_verdict("empty slice", talazumir_verdict(S, 0, log_numbers));
+
+    talazumir_read(S, sizeof S, record);
+    print_written("S", sizeof output);
+    print_written("S", 160);
+    print_written("S", 159);
+    print_altered("T set", TALAZUMIR_T, 1);
+    print_altered("T of 2", TALAZUMIR_T, 2);
+    print_altered("P of 2 in an unused position", TALAZUMIR_POSITION(255) + TALAZUMIR_AVP_P, 2);
+    print_altered("a count of 257", TALAZUMIR_COUNT, 257);
+    print_altered("a count of 10", TALAZUMIR_COUNT, 10);
+    print_altered("4208 at depth 2", TALAZUMIR_POSITION(10) + TALAZUMIR_AVP_DEPTH, 2);
+    print_altered("260 with a length of 16", TALAZUMIR_POSITION(1) + TALAZUMIR_AVP_LENGTH, 16);
+    print_altered("260 with another start", TALAZUMIR_POSITION(1) + TALAZUMIR_AVP_START, 4294967295);
+    print_altered("4208 one octet further", TALAZUMIR_POSITION(10) + TALAZUMIR_AVP_START, 157);
+    print_altered("263 with a length of 161", TALAZUMIR_POSITION(0) + TALAZUMIR_AVP_LENGTH, 161);
+    print_altered("E set", TALAZUMIR_E, 1);
+    talazumir_read(S, sizeof S, record);
+    memset(record + TALAZUMIR_POSITION(10), 0, 7 * sizeof record[0]);
+    record[TALAZUMIR_COUNT] = 10;
+    print_written("S without 4208", sizeof output);
     return 0;
 }

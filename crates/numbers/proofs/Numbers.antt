@@ -15,16 +15,11 @@ use Rattle.rules.specs.declared.Outcome.the-variants.{Refused}
 use Rattle.rules.specs.Search.{blank, avpIn}
 use Rattle.rules.specs.Command.{commandOutcome}
 use Rattle.rules.specs.Record.{emptyRecord, recordBy, reading}
+use Rattle.octets.proofs.Puts.{sets-append}
 use Rattle.log.proofs.Log.{bit-back}
 use Rattle.numbers.specs.Numbers.{headNumbers, avpNumbers, avpsNumbers, numbersOf, avpFrom, avpAt, avpsFrom, countOf, recordOf}
 
 -- ---- written whole
-
-sets-append : (l : List ℕ) (at : ℕ) (vs ws : List ℕ) → sets l at (vs ++ ws) ≡ sets (sets l at vs) (at + length vs) ws
-sets-append l at [] ws = ap (λ (n : ℕ). sets l n ws) (sym (add-zero at))
-sets-append l at (v ∷ vs) ws =
-    let e : suc at + length vs ≡ at + suc (length vs) = omega arith in
-    sets-append (set l at v) (suc at) vs ws ∙ ap (λ (n : ℕ). sets (sets (set l at v) (suc at) vs) n ws) e
 
 sets-whole : (l vs : List ℕ) → length l ≡ length vs → sets l 0 vs ≡ vs
 sets-whole l vs e =

@@ -18,10 +18,14 @@ use Rattle.rules.specs.Dictionary.{dictionary}
 use Rattle.rules.specs.Command.{commandOutcome}
 use Rattle.rules.specs.Writer.{hasRoom, identifiersFit, allBlank, allPlaced, isTree, hasSizes, sizeUnder, isWellFormed, draftOctets, draftOutcome, octetsWritten, writing, outputAfter}
 use Rattle.numbers.specs.Numbers.{recordOf}
-use Rattle.writer.specs.Drafts.{draftOf, drafted, cells, AllSized}
+use Rattle.writer.specs.Drafts.{draftOf, drafted, cells, commandOf, AllSized}
 use Rattle.writer.specs.Promise.{IsReady, IsWritten, refusal, CanPutCommand}
 use Rattle.writer.proofs.Lengths.{both, all-sized, all-long}
 use Rattle.writer.proofs.Commands.{length-command}
+
+-- the command that would be written
+abbrev octetsBy : Record → List ℕ → List ℕ
+octetsBy r s = draftOctets (draftOf r s)
 
 module _ (r : Record) (s : List ℕ) where
   -- ---- the order of the refusals
@@ -32,21 +36,21 @@ module _ (r : Record) (s : List ℕ) where
     outcome-7006 e = rw e
 
     module _ (formed : isWellFormed (draftOf r s) ≡ true) where
-      outcome-7001 : 16384 < length (draftOctets (draftOf r s)) → draftOutcome (draftOf r s) room ≡ refused 7001 0 0 0
+      outcome-7001 : 16384 < length (octetsBy r s) → draftOutcome (draftOf r s) room ≡ refused 7001 0 0 0
       unfolding draftOutcome
-      outcome-7001 h = rw (formed, lt-ltb 16384 (length (draftOctets (draftOf r s))) h)
+      outcome-7001 h = rw (formed, lt-ltb 16384 (length (octetsBy r s)) h)
 
-      module _ (short : length (draftOctets (draftOf r s)) ≤ 16384) where
-        outcome-7004 : room < length (draftOctets (draftOf r s)) → draftOutcome (draftOf r s) room ≡ refused 7004 0 0 0
+      module _ (short : length (octetsBy r s) ≤ 16384) where
+        outcome-7004 : room < length (octetsBy r s) → draftOutcome (draftOf r s) room ≡ refused 7004 0 0 0
         unfolding draftOutcome
         outcome-7004 h =
-            rw (formed, le-ltb 16384 (length (draftOctets (draftOf r s))) short, lt-ltb room (length (draftOctets (draftOf r s))) h)
+            rw (formed, le-ltb 16384 (length (octetsBy r s)) short, lt-ltb room (length (octetsBy r s)) h)
 
-        outcome-read : length (draftOctets (draftOf r s)) ≤ room
-            → draftOutcome (draftOf r s) room ≡ commandOutcome (draftOctets (draftOf r s))
+        outcome-read : length (octetsBy r s) ≤ room
+            → draftOutcome (draftOf r s) room ≡ commandOutcome (octetsBy r s)
         unfolding draftOutcome
         outcome-read h =
-            rw (formed, le-ltb 16384 (length (draftOctets (draftOf r s))) short, le-ltb room (length (draftOctets (draftOf r s))) h)
+            rw (formed, le-ltb 16384 (length (octetsBy r s)) short, le-ltb room (length (octetsBy r s)) h)
 
   -- ---- what is answered and left
 
@@ -57,12 +61,12 @@ module _ (r : Record) (s : List ℕ) where
     written-refused o w e = record { answer = e ∙ rw o; left = rw o }
 
     pub written-accepted : draftOutcome (draftOf r s) (length out) ≡ Pass → (size : ℕ)
-        → size ≡ length (draftOctets (draftOf r s)) → size ≤ length out → (v : Verdict) → v ≡ verdict 0 0 0 0 → (after : List ℕ)
-        → after ≡ sets out 0 (draftOctets (draftOf r s)) → IsWritten r s out (record { verdict = v; length = size }) after
+        → size ≡ length (octetsBy r s) → size ≤ length out → (v : Verdict) → v ≡ verdict 0 0 0 0
+        → (after : List ℕ) → after ≡ sets out 0 (octetsBy r s) → IsWritten r s out (record { verdict = v; length = size }) after
     unfolding writing octetsWritten outputAfter
     written-accepted o size z k v e after a =
-        let fits : 0 + length (draftOctets (draftOf r s)) ≤ length out = omega arith in
-        let xs = draftOctets (draftOf r s) in
+        let fits : 0 + length (octetsBy r s) ≤ length out = omega arith in
+        let xs = octetsBy r s in
         record {
           answer = rw (o, e, z);
           left = a ∙ sets-eq xs out 0 fits ∙ ap (λ (n : ℕ). xs ++ drop n out) (zero-add (length xs)) ∙ rw o;
@@ -71,7 +75,7 @@ module _ (r : Record) (s : List ℕ) where
     pub refused-7006 : isWellFormed (draftOf r s) ≡ false → (w : Written) → w ≡ refusal 7006 → IsWritten r s out w out
     refused-7006 f w e = written-refused (outcome-7006 (length out) f) w e
 
-    module _ (formed : isWellFormed (draftOf r s) ≡ true) (size : ℕ) (long : size ≡ length (draftOctets (draftOf r s))) where
+    module _ (formed : isWellFormed (draftOf r s) ≡ true) (size : ℕ) (long : size ≡ length (octetsBy r s)) where
       pub refused-7001 : 16384 < size → (w : Written) → w ≡ refusal 7001 → IsWritten r s out w out
       refused-7001 h w e = written-refused (outcome-7001 (length out) formed (omega arith)) w e
 
@@ -81,7 +85,8 @@ module _ (r : Record) (s : List ℕ) where
 -- ---- a draft that numbers stand for
 
 module _ (numbers s : List ℕ) (formed : isWellFormed (draftOf (recordOf numbers) s) ≡ true) where
-  parts : (allPlaced dictionary (length s) (drafted numbers) ≡ true) × (isTree 1 dictionary (cells s (drafted numbers)) ≡ true)
+  parts : (allPlaced dictionary (length s) (drafted numbers) ≡ true)
+      × (isTree 1 dictionary (cells s (drafted numbers)) ≡ true)
       × (hasSizes dictionary (cells s (drafted numbers)) ≡ true)
   unfolding isWellFormed
   parts =
@@ -99,12 +104,12 @@ module _ (numbers s : List ℕ) (formed : isWellFormed (draftOf (recordOf number
 
   -- the whole command's size is the sum of the AVPs' own sizes behind the header
   pub formed-long : (under : ℕ) → under ≡ sizeUnder 0 dictionary (cells s (drafted numbers))
-      → 20 + under ≡ length (draftOctets (draftOf (recordOf numbers) s))
+      → 20 + under ≡ length (commandOf numbers s)
   formed-long under e =
       let all = all-long s 1 (drafted numbers) (parts .1) formed-sized in
       omega (arith, length-command numbers s)
 
-  pub formed-ready : (out : List ℕ) (size : ℕ) → size ≡ length (draftOctets (draftOf (recordOf numbers) s)) → size ≤ 16384
+  pub formed-ready : (out : List ℕ) (size : ℕ) → size ≡ length (commandOf numbers s) → size ≤ 16384
       → size ≤ length out → IsReady numbers s out size
   formed-ready out size z h k = record {
     sized = formed-sized;
@@ -114,7 +119,8 @@ module _ (numbers s : List ℕ) (formed : isWellFormed (draftOf (recordOf number
     outcome = outcome-read (recordOf numbers) s (length out) formed (omega arith) (omega arith);
   }
 
-module _ (numbers s out : List ℕ) (size : ℕ) (ready : IsReady numbers s out size) (blank : List ℕ) (room : length blank ≡ 16384) where
+module _ (numbers s out : List ℕ) (size : ℕ) (ready : IsReady numbers s out size) (blank : List ℕ)
+    (room : length blank ≡ 16384) where
   pub ready-can : CanPutCommand blank numbers s size
   ready-can =
       let long = ready .long in
@@ -122,11 +128,11 @@ module _ (numbers s out : List ℕ) (size : ℕ) (ready : IsReady numbers s out 
       let all = length-command numbers s in
       record { all = record { sized = ready .sized; room = omega arith }; long = omega arith }
 
-  module _ (command : List ℕ) (is : command ≡ sets blank 0 (draftOctets (draftOf (recordOf numbers) s))) where
+  module _ (command : List ℕ) (is : command ≡ sets blank 0 (commandOf numbers s)) where
     -- the octets that the reader is handed
-    pub ready-octets : take size command ≡ draftOctets (draftOf (recordOf numbers) s)
+    pub ready-octets : take size command ≡ commandOf numbers s
     ready-octets =
-        let xs = draftOctets (draftOf (recordOf numbers) s) in
+        let xs = commandOf numbers s in
         let long = ready .long in
         let short = ready .short in
         let fits : 0 + length xs ≤ length blank = omega arith in
@@ -135,15 +141,17 @@ module _ (numbers s out : List ℕ) (size : ℕ) (ready : IsReady numbers s out 
     pub ready-length : size ≡ length (take size command)
     ready-length = ready .long ∙ sym (ap length ready-octets)
 
-    ready-outcome : (o : Outcome) → o ≡ commandOutcome (take size command) → draftOutcome (draftOf (recordOf numbers) s) (length out) ≡ o
+    ready-outcome : (o : Outcome) → o ≡ commandOutcome (take size command)
+        → draftOutcome (draftOf (recordOf numbers) s) (length out) ≡ o
     ready-outcome o e = ready .outcome ∙ sym (e ∙ ap commandOutcome ready-octets)
 
     pub ready-refused : (o : Outcome) → o ≡ commandOutcome (take size command) → {v : Verdict} → o ≡ Refused v
         → IsWritten (recordOf numbers) s out (record { verdict = v; length = 0 }) out
     ready-refused o e q = written-refused (recordOf numbers) s out (ready-outcome o e ∙ q) _ refl
 
-    pub ready-accepted : (o : Outcome) → o ≡ commandOutcome (take size command) → o ≡ Pass → (v : Verdict) → v ≡ verdict 0 0 0 0
-        → (after : List ℕ) → after ≡ sets out 0 (take size command)
+    pub ready-accepted : (o : Outcome) → o ≡ commandOutcome (take size command) → o ≡ Pass
+        → (v : Verdict) → v ≡ verdict 0 0 0 0 → (after : List ℕ) → after ≡ sets out 0 (take size command)
         → IsWritten (recordOf numbers) s out (record { verdict = v; length = size }) after
     ready-accepted o e q v w after a =
-        written-accepted (recordOf numbers) s out (ready-outcome o e ∙ q) size (ready .long) (ready .room) v w after (a ∙ ap (sets out 0) ready-octets)
+        let copied = a ∙ ap (sets out 0) ready-octets in
+        written-accepted (recordOf numbers) s out (ready-outcome o e ∙ q) size (ready .long) (ready .room) v w after copied

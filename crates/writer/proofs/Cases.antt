@@ -13,7 +13,7 @@ use Rattle.rules.specs.Dictionary.{dictionary}
 use Rattle.rules.specs.Writer.{isPlaced, ownSize, sizeUnder}
 use Rattle.rules.specs.Meaning.{Cell}
 use Rattle.rules.proofs.Walk.{by-cases}
-use Rattle.writer.specs.Drafts.{cellIn, isGroupAvp, hasSize}
+use Rattle.writer.specs.Drafts.{cellIn, isGroupAvp, hasSize, headerFor}
 
 pub false-true : _≡_ {A = Bool} false true → ⊥
 false-true e = let z : _≡_ {A = ℕ} 0 1 = cc in omega arith
@@ -40,12 +40,12 @@ pub header-twelve : (vendor : ℕ) → (vendor ≡ 0 → ⊥) → headerOf (not 
 header-twelve vendor h = rw (ne-eqb vendor 0 h)
 
 module _ (s : List ℕ) (a : Avp) where
-  pub own-group : isGroupAvp a ≡ true → (header : ℕ) → header ≡ headerOf (not (eqb (a .vendor) 0))
+  pub own-group : isGroupAvp a ≡ true → (header : ℕ) → header ≡ headerFor a
       → header ≡ ownSize dictionary (cellIn s a)
   unfolding ownSize
   own-group g header e = rw (g, e) (omega arith)
 
-  pub own-part : isGroupAvp a ≡ false → (header : ℕ) → header ≡ headerOf (not (eqb (a .vendor) 0))
+  pub own-part : isGroupAvp a ≡ false → (header : ℕ) → header ≡ headerFor a
       → (size : ℕ) → size ≡ padded (a .length) → header + size ≡ ownSize dictionary (cellIn s a)
   unfolding ownSize
   own-part g header e size p = rw (g, e, p)

@@ -5,10 +5,10 @@ use Prim.Native.Nat.{ℕ, _+_}
 use lib.ListN.{length, set, length-append}
 use lib.Seq.{sets}
 use Rattle.rules.specs.Meaning.{Meaning}
-use Rattle.rules.specs.Writer.{octets, flagsOctet, commandHeader, commandOctets, listOctets, draftMeaning, draftOctets}
-use Rattle.writer.proofs.Puts.{sets-append}
+use Rattle.rules.specs.Writer.{octets, flagsOctet, commandHeader, commandOctets, draftMeaning}
+use Rattle.octets.proofs.Puts.{sets-append}
 use Rattle.numbers.specs.Numbers.{recordOf}
-use Rattle.writer.specs.Drafts.{draftOf, drafted, cells}
+use Rattle.writer.specs.Drafts.{draftOf, listOf, commandOf}
 use Rattle.writer.specs.Promise.{IsStart, identified}
 
 -- seven parts, each where the ones before it end
@@ -25,22 +25,25 @@ length-command-header m n = refl
 
 module _ (numbers s : List ℕ) where
   -- how long the command of a draft is
-  pub length-command : length (draftOctets (draftOf (recordOf numbers) s)) ≡ 20 + length (listOctets (cells s (drafted numbers)))
+  pub length-command : length (commandOf numbers s) ≡ 20 + length (listOf numbers s)
   unfolding commandOctets
   length-command =
       let m = draftMeaning (draftOf (recordOf numbers) s) in
-      let xs = listOctets (cells s (drafted numbers)) in
-      length-append (commandHeader m (length xs)) xs ∙ ap (λ (n : ℕ). n + length xs) (length-command-header m (length xs))
+      let xs = listOf numbers s in
+      length-append (commandHeader m (length xs)) xs
+      ∙ ap (λ (n : ℕ). n + length xs) (length-command-header m (length xs))
 
-  pub command-put : (out : List ℕ) (size : ℕ) → size ≡ 20 + length (listOctets (cells s (drafted numbers)))
+  pub command-put : (out : List ℕ) (size : ℕ) → size ≡ 20 + length (listOf numbers s)
       → (first : List ℕ) → IsStart out numbers size first
       → (second : List ℕ) → second ≡ identified first (recordOf numbers)
-      → (third : List ℕ) → third ≡ sets second 20 (listOctets (cells s (drafted numbers)))
-      → third ≡ sets out 0 (draftOctets (draftOf (recordOf numbers) s))
+      → (third : List ℕ) → third ≡ sets second 20 (listOf numbers s)
+      → third ≡ sets out 0 (commandOf numbers s)
   unfolding commandOctets
   command-put out size z first h second i third e =
       let m = draftMeaning (draftOf (recordOf numbers) s) in
-      let xs = listOctets (cells s (drafted numbers)) in
+      let xs = listOf numbers s in
+      let header = commandHeader m (length xs) in
+      let twenty = length-command-header m (length xs) in
       e
       ∙ ap (λ (l : List ℕ). sets l 20 xs) (i ∙ rw (h .is s, z) (sym (header-parts out m (length xs))))
-      ∙ sym (sets-append out 0 (commandHeader m (length xs)) xs ∙ ap (λ (n : ℕ). sets (sets out 0 (commandHeader m (length xs))) (0 + n) xs) (length-command-header m (length xs)))
+      ∙ sym (sets-append out 0 header xs ∙ ap (λ (n : ℕ). sets (sets out 0 header) (0 + n) xs) twenty)

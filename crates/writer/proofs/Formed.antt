@@ -27,6 +27,10 @@ module _ (numbers s : List ℕ) where
       let k : recordOf numbers .count ≤ 256 = rw (count-in numbers) few in
       let h : recordOf numbers .«hop_by_hop» < 2 ^ 32 = rw (hop-in numbers) hop in
       let e : recordOf numbers .«end_to_end» < 2 ^ 32 = rw (end-in numbers) end in
-      rw (eq-eqb (length (recordOf numbers .avps)) 256 (avps-full numbers), le-leb (recordOf numbers .count) 256 k, lt-ltb (recordOf numbers .«hop_by_hop») (2 ^ 32) h, lt-ltb (recordOf numbers .«end_to_end») (2 ^ 32) e)
+      let room = eq-eqb (length (recordOf numbers .avps)) 256 (avps-full numbers) in
+      let fits-hop = lt-ltb (recordOf numbers .«hop_by_hop») (2 ^ 32) h in
+      let fits-end = lt-ltb (recordOf numbers .«end_to_end») (2 ^ 32) e in
+      rw (room, le-leb (recordOf numbers .count) 256 k, fits-hop, fits-end)
       (ap (λ (n : ℕ). allBlank (drop n (recordOf numbers .avps)) && allPlaced dictionary (length s) (drafted numbers)
-      && isTree 1 dictionary (cells s (drafted numbers)) && hasSizes dictionary (cells s (drafted numbers))) (count-in numbers))
+      && isTree 1 dictionary (cells s (drafted numbers)) && hasSizes dictionary (cells s (drafted numbers)))
+      (count-in numbers))

@@ -1,24 +1,24 @@
--- Lengths of a well-formed draft: each AVP takes as many octets as its own size says, and the command as many as the sizes
--- of its AVPs add up to.
+-- Lengths of a well-formed draft: each AVP takes as many octets as its own size says, and the list as many as the sizes
+-- add up to.
 use mathlib.Core.Path.{_≡_, refl, sym, ap, _∙_}
 use mathlib.Core.Bool.{Bool, true, false, not, _&&_}
-use mathlib.Core.List.{List, [], _∷_, _++_}
-use Prim.Native.Nat.{ℕ, _+_, _-_, _%_, _≤_}
+use mathlib.Core.List.{List, [], _∷_}
+use Prim.Native.Nat.{ℕ, _-_, _%_, _≤_}
 use native.Mathlib.Omega.{arith}
 use borrow.Author.Tests.{leb-true, eqb-true, lt-ltb}
 use lib.Dec.{ltb, eqb, leb}
-use lib.ListN.{length, drop, replicate, length-append, length-drop, length-replicate}
+use lib.ListN.{length, drop, length-append, length-drop}
 use lib.Seq.{length-take-le}
 use Rattle.rules.specs.declared.Avp.{Avp}
 use Rattle.rules.specs.Octets.{padded}
 use Rattle.rules.specs.Avp.{headerOf, endOf}
 use Rattle.rules.specs.Dictionary.{dictionary}
-use Rattle.rules.specs.Writer.{avpHeader, avpOctets, listOctets, isPlaced, allPlaced, nextDepth, isTree, ownSize, sizeUnder, hasSizes}
+use Rattle.rules.specs.Writer.{avpOctets, listOctets, isPlaced, allPlaced, nextDepth, isTree, ownSize, sizeUnder, hasSizes}
 use Rattle.rules.proofs.Octets.{padded-least}
 use Rattle.rules.proofs.Walk.{by-cases}
-use Rattle.writer.specs.Drafts.{cellIn, cells, isGroupAvp, hasSize, Sized, AllSized}
+use Rattle.writer.specs.Drafts.{cellIn, cells, isGroupAvp, hasSize, headerFor, Sized, AllSized}
 use Rattle.writer.proofs.Cases.{false-true, own-group, own-part}
-use Rattle.writer.proofs.Putting.{length-header}
+use Rattle.writer.proofs.Putting.{length-avp}
 
 pub both : (a b : Bool) → (a && b) ≡ true → (a ≡ true) × (b ≡ true)
 both true b e = (refl, e)
@@ -41,10 +41,10 @@ padded-same n e = omega arith
 module _ (s : List ℕ) where
   own-four : (a : Avp) → ownSize dictionary (cellIn s a) % 4 ≡ 0
   own-four a =
-      let h = headerOf (not (eqb (a .vendor) 0)) in
+      let header = header-four (not (eqb (a .vendor) 0)) in
       by-cases (isGroupAvp a)
-      (λ g. omega (arith, own-group s a g h refl, header-four (not (eqb (a .vendor) 0))))
-      (λ g. omega (arith, own-part s a g h refl (padded (a .length)) refl, header-four (not (eqb (a .vendor) 0)), padded-four (a .length)))
+      (λ g. omega (arith, own-group s a g (headerFor a) refl))
+      (λ g. omega (arith, own-part s a g (headerFor a) refl (padded (a .length)) refl, padded-four (a .length)))
 
   under-four : (depth : ℕ) (xs : List Avp) → sizeUnder depth dictionary (cells s xs) % 4 ≡ 0
   unfolding sizeUnder
@@ -55,39 +55,27 @@ module _ (s : List ℕ) where
 
   -- ---- one AVP
 
-  long-is : (a : Avp) → length (avpOctets (cellIn s a))
-      ≡ headerOf (not (eqb (a .vendor) 0)) + (length (cellIn s a .octets) + (padded (a .length) - a .length))
-  unfolding avpOctets
-  long-is a =
-      let c = cellIn s a in
-      let pad : List ℕ = replicate (padded (a .length) - a .length) 0 in
-      let zeros : length pad ≡ padded (a .length) - a .length = length-replicate (padded (a .length) - a .length) 0 in
-      length-append (avpHeader c) (c .octets ++ pad)
-      ∙ ap (λ (n : ℕ). length (avpHeader c) + n) (length-append (c .octets) pad)
-      ∙ rw (length-header s a, zeros)
-
   sized-group : (a : Avp) → isGroupAvp a ≡ true → a .length % 4 ≡ 0 → Sized s a
   sized-group a g four =
       let none : length (cellIn s a .octets) ≡ 0 = rw g in
       record {
         placed = λ f. absurd (false-true (sym f ∙ g));
-        long = omega (arith, long-is a, none, padded-same (a .length) four, own-group s a g (headerOf (not (eqb (a .vendor) 0))) refl);
+        long = omega (arith, length-avp s a, none, padded-same (a .length) four, own-group s a g (headerFor a) refl);
       }
 
   sized-part : (a : Avp) → isGroupAvp a ≡ false → endOf a ≤ length s → Sized s a
   sized-part a g h =
       let k : a .length ≤ length (drop (a .start) s) = simp length-drop (omega arith) in
       let all : length (cellIn s a .octets) ≡ a .length = rw g (length-take-le (a .length) (drop (a .start) s) k) in
-      record {
-        placed = λ _. h;
-        long = omega (arith, long-is a, all, padded-least (a .length), own-part s a g (headerOf (not (eqb (a .vendor) 0))) refl (padded (a .length)) refl);
-      }
+      let own = own-part s a g (headerFor a) refl (padded (a .length)) refl in
+      record { placed = λ _. h; long = omega (arith, length-avp s a, all, padded-least (a .length), own) }
 
   placed-in : (a : Avp) → isPlaced dictionary (length s) a ≡ true → isGroupAvp a ≡ false → endOf a ≤ length s
   unfolding isPlaced
   placed-in a e g = leb-true (endOf a) (length s) (both _ _ (both _ _ (rw g at e) .0) .0)
 
-  sized-by : (a : Avp) (xs : List Avp) → isPlaced dictionary (length s) a ≡ true → hasSize a (cells s xs) ≡ true → Sized s a
+  sized-by : (a : Avp) (xs : List Avp) → isPlaced dictionary (length s) a ≡ true → hasSize a (cells s xs) ≡ true
+      → Sized s a
   sized-by a xs p z =
       by-cases (isGroupAvp a)
       (λ g.
@@ -97,7 +85,8 @@ module _ (s : List ℕ) where
 
   -- ---- the list
 
-  pub all-sized : (xs : List Avp) → allPlaced dictionary (length s) xs ≡ true → hasSizes dictionary (cells s xs) ≡ true → AllSized s xs
+  pub all-sized : (xs : List Avp) → allPlaced dictionary (length s) xs ≡ true → hasSizes dictionary (cells s xs) ≡ true
+      → AllSized s xs
   unfolding allPlaced hasSizes
   all-sized [] p z = tt
   all-sized (a ∷ xs) p z =
@@ -110,8 +99,11 @@ module _ (s : List ℕ) where
   unfolding isTree sizeUnder listOctets
   all-long most [] t z = refl
   all-long most (a ∷ xs) t z =
-      let q = both (leb 1 (a .depth) && leb (a .depth) most && leb (a .depth) 4) (isTree (nextDepth dictionary (cellIn s a)) dictionary (cells s xs)) t in
-      let one = leb-true 1 (a .depth) (both (leb 1 (a .depth)) (leb (a .depth) most) (both (leb 1 (a .depth) && leb (a .depth) most) (leb (a .depth) 4) (q .0) .0) .0) in
-      let rest = all-long (nextDepth dictionary (cellIn s a)) xs (q .1) (z .1) in
+      let least = leb 1 (a .depth) in
+      let follows = leb (a .depth) most in
+      let next = nextDepth dictionary (cellIn s a) in
+      let q = both (least && follows && leb (a .depth) 4) (isTree next dictionary (cells s xs)) t in
+      let one = leb-true 1 (a .depth) (both least follows (both (least && follows) (leb (a .depth) 4) (q .0) .0) .0) in
+      let rest = all-long next xs (q .1) (z .1) in
       let e = length-append (avpOctets (cellIn s a)) (listOctets (cells s xs)) in
       rw (lt-ltb 0 (a .depth) one) (omega (arith, z .0 .long, rest, e))

@@ -1,6 +1,5 @@
 -- The laws behind the writer's proofs.
 mod Cases
-mod Puts
 mod Positions
 mod Putting
 mod Listing

@@ -7,9 +7,9 @@ use lib.ListN.{length, drop, length-append}
 use lib.Seq.{sets, length-sets}
 use Rattle.rules.specs.declared.Avp.{Avp}
 use Rattle.rules.specs.Writer.{avpOctets, listOctets}
-use Rattle.writer.proofs.Puts.{sets-append}
+use Rattle.octets.proofs.Puts.{sets-append}
 use Rattle.numbers.specs.Numbers.{avpAt, countOf}
-use Rattle.writer.specs.Drafts.{drafted, cellIn, cells, AllSized}
+use Rattle.writer.specs.Drafts.{drafted, cellIn, cells, listOf, AllSized}
 use Rattle.writer.specs.Promise.{IsPut, CanPut, CanPutAll}
 use Rattle.writer.proofs.Positions.{list-next, list-end, sized-next}
 
@@ -17,14 +17,14 @@ use Rattle.writer.proofs.Positions.{list-next, list-end, sized-next}
 pub record Left (numbers s before out : List ℕ) (at i : ℕ) : Type 0 where
   pub sized : AllSized s (drop i (drafted numbers))
   pub room : at + length (listOctets (cells s (drop i (drafted numbers)))) ≤ length out
-  pub same : sets out at (listOctets (cells s (drop i (drafted numbers)))) ≡ sets before 20 (listOctets (cells s (drafted numbers)))
+  pub same : sets out at (listOctets (cells s (drop i (drafted numbers)))) ≡ sets before 20 (listOf numbers s)
 
 module _ (numbers s before : List ℕ) where
   pub left-all : CanPutAll before numbers s → Left numbers s before before 20 0
   left-all can = record { sized = can .sized; room = can .room; same = refl }
 
   module _ (out : List ℕ) (at i : ℕ) (left : Left numbers s before out at i) where
-    pub left-end : min (countOf numbers) 256 ≤ i → out ≡ sets before 20 (listOctets (cells s (drafted numbers)))
+    pub left-end : min (countOf numbers) 256 ≤ i → out ≡ sets before 20 (listOf numbers s)
     left-end h = sym (ap (sets out at) (list-end numbers s i h)) ∙ left .same
 
     module _ (h : i < min (countOf numbers) 256) (a : Avp) (is : a ≡ avpAt numbers i) where
@@ -36,7 +36,9 @@ module _ (numbers s before : List ℕ) where
 
       many : length (listOctets (cells s (drop i (drafted numbers))))
           ≡ length (avpOctets (cellIn s a)) + length (listOctets (cells s (drop (i + 1) (drafted numbers))))
-      many = ap length next-is ∙ length-append (avpOctets (cellIn s a)) (listOctets (cells s (drop (i + 1) (drafted numbers))))
+      many =
+          ap length next-is
+          ∙ length-append (avpOctets (cellIn s a)) (listOctets (cells s (drop (i + 1) (drafted numbers))))
 
       pub left-can : CanPut out at a s
       left-can =

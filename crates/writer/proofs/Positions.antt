@@ -27,13 +27,15 @@ and-on b q e f = e ∙ rw f
 module _ (numbers : List ℕ) where
   -- ---- all 256 places
 
-  avps-next : (i : ℕ) → i < 256 → drop i (recordOf numbers .avps) ≡ avpAt numbers i ∷ drop (i + 1) (recordOf numbers .avps)
+  avps-next : (i : ℕ) → i < 256
+      → drop i (recordOf numbers .avps) ≡ avpAt numbers i ∷ drop (i + 1) (recordOf numbers .avps)
   avps-next i h =
       let full = avps-full numbers in
       drop-cons (recordOf numbers .avps) i blank (omega arith) ∙ rw (avp-in numbers i h, add-one i)
 
   pub blank-next : (i : ℕ) → i < 256
-      → allBlank (drop i (recordOf numbers .avps)) ≡ (isBlank (avpAt numbers i) && allBlank (drop (i + 1) (recordOf numbers .avps)))
+      → allBlank (drop i (recordOf numbers .avps))
+      ≡ (isBlank (avpAt numbers i) && allBlank (drop (i + 1) (recordOf numbers .avps)))
   unfolding allBlank
   blank-next i h = ap allBlank (avps-next i h)
 
@@ -52,12 +54,14 @@ module _ (numbers : List ℕ) where
       length-take-le (min (recordOf numbers .count) 256) (recordOf numbers .avps) (omega arith)
       ∙ ap (λ (n : ℕ). min n 256) (count-in numbers)
 
-  drafted-next : (i : ℕ) → i < min (countOf numbers) 256 → drop i (drafted numbers) ≡ avpAt numbers i ∷ drop (i + 1) (drafted numbers)
+  drafted-next : (i : ℕ) → i < min (countOf numbers) 256
+      → drop i (drafted numbers) ≡ avpAt numbers i ∷ drop (i + 1) (drafted numbers)
   drafted-next i h =
       let used : i < length (drafted numbers) = rw many h in
       let in-use : i < min (recordOf numbers .count) 256 = rw (count-in numbers) h in
       drop-cons (drafted numbers) i blank used
-      ∙ rw (getD-take (min (recordOf numbers .count) 256) (recordOf numbers .avps) i blank in-use, avp-in numbers i (omega arith), add-one i)
+      ∙ rw (getD-take (min (recordOf numbers .count) 256) (recordOf numbers .avps) i blank in-use)
+      (rw (avp-in numbers i (omega arith), add-one i))
 
   drafted-end : (i : ℕ) → min (countOf numbers) 256 ≤ i → drop i (drafted numbers) ≡ []
   drafted-end i h =
@@ -70,7 +74,8 @@ module _ (numbers : List ℕ) where
   unfolding allPlaced
   placed-next size i h = ap (allPlaced dictionary size) (drafted-next i h)
 
-  pub placed-end : (size i : ℕ) → min (countOf numbers) 256 ≤ i → allPlaced dictionary size (drop i (drafted numbers)) ≡ true
+  pub placed-end : (size i : ℕ) → min (countOf numbers) 256 ≤ i
+      → allPlaced dictionary size (drop i (drafted numbers)) ≡ true
   unfolding allPlaced
   placed-end size i h = ap (allPlaced dictionary size) (drafted-end i h)
 
@@ -127,7 +132,8 @@ module _ (numbers : List ℕ) where
         ap (λ (xs : List Avp). sizeUnder depth dictionary (cells s xs)) (drafted-next i h)
         ∙ rw (lt-ltb depth (avpAt numbers i .depth) k)
 
-    pub under-stop : (depth i : ℕ) → i < min (countOf numbers) 256 → avpAt numbers i .depth ≤ depth → underLeft depth i ≡ 0
+    pub under-stop : (depth i : ℕ) → i < min (countOf numbers) 256 → avpAt numbers i .depth ≤ depth
+        → underLeft depth i ≡ 0
     unfolding sizeUnder
     under-stop depth i h k =
         ap (λ (xs : List Avp). sizeUnder depth dictionary (cells s xs)) (drafted-next i h)

@@ -1,6 +1,6 @@
 -- Octets put part by part are the octets of the whole: an AVP's header, an AVP, and the AVPs of a list.
 use mathlib.Core.Path.{_≡_, refl, sym, ap, _∙_}
-use mathlib.Core.Bool.{true, false, cond, not}
+use mathlib.Core.Bool.{true, false}
 use mathlib.Core.List.{List, [], _∷_, _++_, append-nil}
 use Prim.Native.Nat.{ℕ, suc, _+_, _-_, _≤_}
 use native.Mathlib.Omega.{arith}
@@ -10,13 +10,11 @@ use lib.ListN.{length, set, take, drop, replicate, length-append, length-drop, l
 use lib.Seq.{sets, length-take-le}
 use Rattle.rules.specs.declared.Avp.{Avp}
 use Rattle.rules.specs.Octets.{padded}
-use Rattle.rules.specs.Avp.{headerOf}
-use Rattle.rules.specs.Dictionary.{dictionary}
-use Rattle.rules.specs.Writer.{octets, avpFlags, avpHeader, avpOctets, ownSize}
+use Rattle.rules.specs.Writer.{octets, vendorOctets, avpFlags, avpHeader, avpOctets}
 use Rattle.rules.proofs.Octets.{padded-least}
 use Rattle.rules.proofs.Walk.{by-cases}
-use Rattle.writer.proofs.Puts.{sets-append}
-use Rattle.writer.specs.Drafts.{cellIn, isGroupAvp, Sized}
+use Rattle.octets.proofs.Puts.{sets-append}
+use Rattle.writer.specs.Drafts.{cellIn, isGroupAvp, headerFor, Sized}
 use Rattle.writer.specs.Promise.{IsPut}
 use Rattle.writer.proofs.Cases.{own-group, own-part}
 
@@ -44,56 +42,65 @@ octets-three n = refl
 
 module _ (s : List ℕ) (a : Avp) where
   -- the octets of an AVP's header
-  pub length-header : length (avpHeader (cellIn s a)) ≡ headerOf (not (eqb (a .vendor) 0))
+  pub length-header : length (avpHeader (cellIn s a)) ≡ headerFor a
   unfolding avpHeader octets
   length-header = by-cases (eqb (a .vendor) 0) (λ h. rw h) (λ h. rw h)
 
   -- what the code knows of the parts, one after the other
   module _ (out : List ℕ) (at : ℕ) (first : List ℕ) (is-first : first ≡ sets out at (octets 4 (a .code))) (flags : ℕ)
-      (is-flags : flags ≡ avpFlags (cellIn s a)) (header : ℕ) (is-header : header ≡ headerOf (not (eqb (a .vendor) 0)))
-      (second : List ℕ) (is-second : second ≡ sets (set first (at + 4) flags) (at + 5) (octets 3 (header + a .length))) where
+      (is-flags : flags ≡ avpFlags (cellIn s a)) (header : ℕ) (is-header : header ≡ headerFor a)
+      (second : List ℕ)
+      (is-second : second ≡ sets (set first (at + 4) flags) (at + 5) (octets 3 (header + a .length))) where
     eight : (vendor : List ℕ)
-        → sets out at (octets 4 (a .code) ++ (avpFlags (cellIn s a) ∷ (octets 3 (headerOf (not (eqb (a .vendor) 0)) + a .length) ++ vendor)))
+        → sets out at (octets 4 (a .code) ++ (avpFlags (cellIn s a) ∷ (octets 3 (headerFor a + a .length) ++ vendor)))
         ≡ sets second (at + 8) vendor
     eight vendor =
-        four-one-three out at (octets 4 (a .code)) (avpFlags (cellIn s a)) (octets 3 (headerOf (not (eqb (a .vendor) 0)) + a .length)) vendor (octets-four (a .code)) (octets-three (headerOf (not (eqb (a .vendor) 0)) + a .length))
+        let size = headerFor a + a .length in
+        four-one-three out at (octets 4 (a .code)) (avpFlags (cellIn s a)) (octets 3 size) vendor
+        (octets-four (a .code)) (octets-three size)
         ∙ rw (← is-first, ← is-flags, ← is-header, ← is-second)
 
     pub header-without-vendor : a .vendor ≡ 0 → IsPut out at (avpHeader (cellIn s a)) second (at + 8)
     unfolding avpHeader
     header-without-vendor v =
-        let size : headerOf (not (eqb (a .vendor) 0)) ≡ 8 = rw (eq-eqb (a .vendor) 0 v) in
-        let none : cond (not (eqb (a .vendor) 0)) (octets 4 (a .vendor)) [] ≡ [] = rw (eq-eqb (a .vendor) 0 v) in
+        let size : headerFor a ≡ 8 = rw (eq-eqb (a .vendor) 0 v) in
+        let none : vendorOctets (cellIn s a) ≡ [] = rw (eq-eqb (a .vendor) 0 v) in
         record {
-          is = sym (eight (cond (not (eqb (a .vendor) 0)) (octets 4 (a .vendor)) []) ∙ ap (λ (l : List ℕ). sets second (at + 8) l) none);
+          is = sym (eight (vendorOctets (cellIn s a)) ∙ ap (λ (l : List ℕ). sets second (at + 8) l) none);
           ends = ap (λ (n : ℕ). at + n) (sym (length-header ∙ size));
         }
 
-    pub header-with-vendor : (a .vendor ≡ 0 → ⊥) → (third : List ℕ) → third ≡ sets second (at + 8) (octets 4 (a .vendor))
-        → IsPut out at (avpHeader (cellIn s a)) third (at + 12)
+    pub header-with-vendor : (a .vendor ≡ 0 → ⊥)
+        → (third : List ℕ) → third ≡ sets second (at + 8) (octets 4 (a .vendor)) → IsPut out at (avpHeader (cellIn s a)) third (at + 12)
     unfolding avpHeader
     header-with-vendor v third e =
-        let size : headerOf (not (eqb (a .vendor) 0)) ≡ 12 = rw (ne-eqb (a .vendor) 0 v) in
-        let all : cond (not (eqb (a .vendor) 0)) (octets 4 (a .vendor)) [] ≡ octets 4 (a .vendor) = rw (ne-eqb (a .vendor) 0 v) in
+        let size : headerFor a ≡ 12 = rw (ne-eqb (a .vendor) 0 v) in
+        let all : vendorOctets (cellIn s a) ≡ octets 4 (a .vendor) = rw (ne-eqb (a .vendor) 0 v) in
         record {
-          is = e ∙ sym (eight (cond (not (eqb (a .vendor) 0)) (octets 4 (a .vendor)) []) ∙ ap (λ (l : List ℕ). sets second (at + 8) l) all);
+          is = e ∙ sym (eight (vendorOctets (cellIn s a)) ∙ ap (λ (l : List ℕ). sets second (at + 8) l) all);
           ends = ap (λ (n : ℕ). at + n) (sym (length-header ∙ size));
         }
 
 -- ---- an AVP, behind its header
 
+-- how many octets an AVP takes
+pub length-avp : (s : List ℕ) (a : Avp) → length (avpOctets (cellIn s a))
+    ≡ headerFor a + (length (cellIn s a .octets) + (padded (a .length) - a .length))
+unfolding avpOctets
+length-avp s a =
+    let c = cellIn s a in
+    let pad : List ℕ = replicate (padded (a .length) - a .length) 0 in
+    let zeros : length pad ≡ padded (a .length) - a .length = length-replicate (padded (a .length) - a .length) 0 in
+    length-append (avpHeader c) (c .octets ++ pad)
+    ∙ ap (λ (n : ℕ). length (avpHeader c) + n) (length-append (c .octets) pad)
+    ∙ rw (length-header s a, zeros)
+
 module _ (s : List ℕ) (a : Avp) (sized : Sized s a) where
   -- a read group has no octets but its header
   group-padding : isGroupAvp a ≡ true → padded (a .length) - a .length ≡ 0
-  unfolding avpOctets ownSize
   group-padding g =
-      let c = cellIn s a in
-      let none : c .octets ≡ [] = rw g in
-      let many : length (avpHeader c) + (length (c .octets) + length (replicate {A = ℕ} (padded (a .length) - a .length) 0)) ≡ ownSize dictionary c =
-      sym (length-append (avpHeader c) (c .octets ++ replicate (padded (a .length) - a .length) 0) ∙ ap (λ (n : ℕ). length (avpHeader c) + n) (length-append (c .octets) (replicate (padded (a .length) - a .length) 0)))
-      ∙ sized .long in
-      let own : headerOf (not (eqb (a .vendor) 0)) ≡ ownSize dictionary c = own-group s a g (headerOf (not (eqb (a .vendor) 0))) refl in
-      omega (arith, length-header s a, ap length none, length-replicate {A = ℕ} (padded (a .length) - a .length) 0)
+      let none : length (cellIn s a .octets) ≡ 0 = rw g in
+      omega (arith, sized .long, length-avp s a, own-group s a g (headerFor a) refl)
 
   pub put-group : isGroupAvp a ≡ true → (out : List ℕ) (at : ℕ) (after : List ℕ) (next : ℕ)
       → IsPut out at (avpHeader (cellIn s a)) after next → IsPut out at (avpOctets (cellIn s a)) after next
@@ -105,19 +112,22 @@ module _ (s : List ℕ) (a : Avp) (sized : Sized s a) where
       ap (λ (l : List ℕ). avpHeader c ++ (l ++ replicate (padded (a .length) - a .length) 0)) none
       ∙ ap (λ (n : ℕ). avpHeader c ++ replicate n 0) (group-padding g)
       ∙ append-nil (avpHeader c) in
-      record { is = p .is ∙ ap (sets out at) (sym same); ends = p .ends ∙ ap (λ (l : List ℕ). at + length l) (sym same) }
+      record {
+        is = p .is ∙ ap (sets out at) (sym same);
+        ends = p .ends ∙ ap (λ (l : List ℕ). at + length l) (sym same);
+      }
 
   -- the room that the header takes, and the data with its padding
-  pub room-header : (at n : ℕ) → at + length (avpOctets (cellIn s a)) ≤ n → at + headerOf (not (eqb (a .vendor) 0)) ≤ n
+  pub room-header : (at n : ℕ) → at + length (avpOctets (cellIn s a)) ≤ n → at + headerFor a ≤ n
   room-header at n h =
       by-cases (isGroupAvp a)
-      (λ g. omega (arith, sized .long, own-group s a g (headerOf (not (eqb (a .vendor) 0))) refl))
-      (λ g. omega (arith, sized .long, own-part s a g (headerOf (not (eqb (a .vendor) 0))) refl (padded (a .length)) refl))
+      (λ g. omega (arith, sized .long, own-group s a g (headerFor a) refl))
+      (λ g. omega (arith, sized .long, own-part s a g (headerFor a) refl (padded (a .length)) refl))
 
   module _ (part : isGroupAvp a ≡ false) where
     pub room-part : (at n : ℕ) → at + length (avpOctets (cellIn s a)) ≤ n
-        → at + (headerOf (not (eqb (a .vendor) 0)) + padded (a .length)) ≤ n
-    room-part at n h = omega (arith, sized .long, own-part s a part (headerOf (not (eqb (a .vendor) 0))) refl (padded (a .length)) refl)
+        → at + (headerFor a + padded (a .length)) ≤ n
+    room-part at n h = omega (arith, sized .long, own-part s a part (headerFor a) refl (padded (a .length)) refl)
 
     -- the data, as the code takes it from the octets
     data-is : take (a .start + a .length - a .start) (drop (a .start) s) ≡ cellIn s a .octets
@@ -131,7 +141,8 @@ module _ (s : List ℕ) (a : Avp) (sized : Sized s a) where
         let k : a .length ≤ length (drop (a .start) s) = simp length-drop (omega (arith, sized .placed part)) in
         ap (λ (n : ℕ). length (take n (drop (a .start) s))) e ∙ length-take-le (a .length) (drop (a .start) s) k
 
-    pub put-part : (out : List ℕ) (at : ℕ) (first : List ℕ) (place : ℕ) → IsPut out at (avpHeader (cellIn s a)) first place
+    pub put-part : (out : List ℕ) (at : ℕ) (first : List ℕ) (place : ℕ)
+        → IsPut out at (avpHeader (cellIn s a)) first place
         → (second : List ℕ) → second ≡ sets first place (take (a .start + a .length - a .start) (drop (a .start) s))
         → (size : ℕ) → size ≡ padded (a .length)
         → (third : List ℕ) → third ≡ sets second (place + a .length) (replicate (size - a .length) 0)
@@ -141,15 +152,14 @@ module _ (s : List ℕ) (a : Avp) (sized : Sized s a) where
         let c = cellIn s a in
         let pad : List ℕ = replicate (padded (a .length) - a .length) 0 in
         let h = length (avpHeader c) in
+        let both = sets (sets out at (avpHeader c)) (at + h) (c .octets) in
         let long : length (c .octets) ≡ a .length = sym (ap length data-is) ∙ data-long in
-        let here : sets out at (avpHeader c ++ (c .octets ++ pad)) ≡ sets (sets (sets out at (avpHeader c)) (at + h) (c .octets)) (at + h + length (c .octets)) pad =
-        sets-append out at (avpHeader c) (c .octets ++ pad) ∙ sets-append (sets out at (avpHeader c)) (at + h) (c .octets) pad in
-        let all : length (avpHeader c ++ (c .octets ++ pad)) ≡ h + (length (c .octets) + length pad) =
-        length-append (avpHeader c) (c .octets ++ pad) ∙ ap (λ (n : ℕ). h + n) (length-append (c .octets) pad) in
-        let zeros : length pad ≡ padded (a .length) - a .length = length-replicate (padded (a .length) - a .length) 0 in
+        let here : sets out at (avpHeader c ++ (c .octets ++ pad)) ≡ sets both (at + h + length (c .octets)) pad =
+        sets-append out at (avpHeader c) (c .octets ++ pad)
+        ∙ sets-append (sets out at (avpHeader c)) (at + h) (c .octets) pad in
         record {
           is =
-              t ∙ rw (z, q, p .is, p .ends, data-is)
-              (sym (here ∙ ap (λ (n : ℕ). sets (sets (sets out at (avpHeader c)) (at + h) (c .octets)) (at + h + n) pad) long));
-          ends = omega (arith, p .ends, all, z, long, zeros, padded-least (a .length));
+              t
+              ∙ rw (z, q, p .is, p .ends, data-is) (sym (here ∙ ap (λ (n : ℕ). sets both (at + h + n) pad) long));
+          ends = omega (arith, p .ends, length-avp s a, length-header s a, z, long, padded-least (a .length));
         }

@@ -2,12 +2,12 @@
 use mathlib.Core.Path.{_≡_}
 use Prim.Native.Nat.{ℕ, _≤_}
 use mathlib.Core.List.{List, [], _∷_, map}
-use mathlib.Core.Bool.{Bool, true, false, cond}
+use mathlib.Core.Bool.{Bool, true, false, cond, not}
 use lib.ListN.{length}
 use lib.Dec.{eqb}
 use Rattle.rules.specs.declared.Avp.{Avp}
 use Rattle.rules.specs.declared.Record.{Record}
-use Rattle.rules.specs.Avp.{endOf}
+use Rattle.rules.specs.Avp.{headerOf, endOf}
 use Rattle.rules.specs.Dictionary.{dictionary}
 use Rattle.rules.specs.Record.{recorded}
 use Rattle.rules.specs.Meaning.{Cell, cellOf, isReadGroup}
@@ -41,6 +41,10 @@ commandOf numbers s = draftOctets (draftOf (recordOf numbers) s)
 -- a read group's length is the size of its members, which are the first of the cells behind it
 abbrev pub hasSize : Avp → List Cell → Bool
 hasSize a cs = cond (isGroupAvp a) (eqb (a .length) (sizeUnder (a .depth) dictionary cs)) true
+
+-- the octets of an AVP's header
+abbrev pub headerFor : Avp → ℕ
+headerFor a = headerOf (not (eqb (a .vendor) 0))
 
 -- an AVP whose data lies in the octets, and that takes as many octets as its own size says
 pub record Sized (s : List ℕ) (a : Avp) : Type 0 where

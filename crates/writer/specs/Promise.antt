@@ -13,7 +13,7 @@ use Rattle.rules.specs.Header.{applicationNt, codeBackgroundDataTransfer}
 use Rattle.rules.specs.Dictionary.{dictionary}
 use Rattle.rules.specs.Verdict.{verdict}
 use Rattle.rules.specs.Command.{commandOutcome}
-use Rattle.rules.specs.Writer.{octets, avpOctets, listOctets, flagsOctet, draftMeaning, draftOctets, draftOutcome, ownSize, sizeUnder, writing, outputAfter}
+use Rattle.rules.specs.Writer.{octets, avpOctets, flagsOctet, draftMeaning, draftOutcome, ownSize, sizeUnder, writing, outputAfter}
 use Rattle.numbers.specs.Numbers.{recordOf, avpAt}
 use Rattle.writer.specs.Drafts.{draftOf, drafted, cellIn, cells, listOf, commandOf, hasSize, Sized, AllSized}
 
@@ -55,8 +55,9 @@ pub record CanPutAll (out numbers s : List ℕ) : Type 0 where
 pub record IsStart (before numbers : List ℕ) (size : ℕ) (after : List ℕ) : Type 0 where
   pub is : (s : List ℕ)
       → after
-      ≡ sets (set (sets (set before 0 1) 1 (octets 3 size)) 4 (flagsOctet (draftMeaning (draftOf (recordOf numbers) s)))) 5
-      (octets 3 codeBackgroundDataTransfer)
+      ≡ sets
+      (set (sets (set before 0 1) 1 (octets 3 size)) 4 (flagsOctet (draftMeaning (draftOf (recordOf numbers) s))))
+      5 (octets 3 codeBackgroundDataTransfer)
 
 -- its other twelve
 abbrev pub identified : List ℕ → Record → List ℕ

@@ -1,4 +1,4 @@
-//! The proved reader of Nt commands (TS 29.154, Background-Data-Transfer request and answer) as safe Rust.
+//! The proved reader and writer of Nt commands (TS 29.154, Background-Data-Transfer request and answer) as safe Rust.
 //!
 //! The answers come from the archive that `rt staticlib boundary` proves and builds; this crate only hands over slices and
 //! arrays. `include/talazumir.h` has the table of verdict numbers.
@@ -146,6 +146,17 @@ impl Record {
     pub fn data<'a>(&self, position: usize, octets: &'a [u8]) -> &'a [u8] {
         let part = boundary::data(&self.numbers, position, octets);
         &octets[part.start..part.start + part.length]
+    }
+
+    /// Writes the draft that this record and `octets` are as a command to the start of `output`, and gives the command's
+    /// length; refused, `output` is as it was. A flag whose number is neither 0 nor 1 is refused with 7006.
+    pub fn write(&self, octets: &[u8], output: &mut [u8]) -> Result<usize, Verdict> {
+        let written = boundary::write(&self.numbers, octets, output);
+        if written.verdict.is_accepted() {
+            Ok(written.length as usize)
+        } else {
+            Err(written.verdict)
+        }
     }
 
     /// The position of the first AVP at depth 1 with this vendor and code.

@@ -1,6 +1,7 @@
 -- `writer::write_numbers` meets its contract.
 use borrow.Author.Needs.{needs}
 use mathlib.Core.Path.{sym, _∙_}
+use native.Mathlib.Omega.{arith}
 use borrow.Author.Tests.{not-true, not-false}
 use Rattle.numbers.specs.Numbers.{recordOf}
 use Rattle.writer.proofs.Answers.{refused-7006, refused-7001, refused-7004, formed-long, formed-ready}
@@ -39,7 +40,8 @@ returns-2 c =
     let s = start .args .s .now in
     let formed = sym (at-is-well-formed .is-well-formed .ensures) ∙ not-false _ (at-if1 .if1 .left) in
     let long = formed-long n s formed _ (at-size-under .size-under .ensures .is s) in
-    refused-7001 (recordOf n) s (start .args .out .now) formed _ long (at-if2 .if2 .taken) _ (c .refusal2 .ensures)
+    refused-7001 (recordOf n) s (start .args .out .now) formed _ long (omega (arith, at-if2 .if2 .taken)) _
+    (c .refusal2 .ensures)
 
 refusal-requires-3 : tie.Need-refusal-requires-3
 refusal-requires-3 c κs = search needs
@@ -56,8 +58,8 @@ returns-3 c =
     let s = start .args .s .now in
     let formed = sym (at-is-well-formed .is-well-formed .ensures) ∙ not-false _ (at-if1 .if1 .left) in
     let long = formed-long n s formed _ (at-size-under .size-under .ensures .is s) in
-    refused-7004 (recordOf n) s (start .args .out .now) formed _ long (at-if2 .if2 .left) (at-if3 .if3 .taken) _
-    (c .refusal3 .ensures)
+    refused-7004 (recordOf n) s (start .args .out .now) formed _ long (omega (arith, at-if2 .if2 .left))
+    (omega (arith, at-if3 .if3 .taken)) _ (c .refusal3 .ensures)
 
 write-ready-requires : tie.Need-write-ready-requires
 write-ready-requires c κs =
@@ -71,7 +73,8 @@ write-ready-requires c κs =
     let s = start .args .s .now in
     let formed = sym (at-is-well-formed .is-well-formed .ensures) ∙ not-false _ (at-if1 .if1 .left) in
     let long = formed-long n s formed _ (at-size-under .size-under .ensures .is s) in
-    formed-ready n s formed (start .args .out .now) _ long (at-if2 .if2 .left) (at-if3 .if3 .left)
+    formed-ready n s formed (start .args .out .now) _ long (omega (arith, at-if2 .if2 .left))
+    (omega (arith, at-if3 .if3 .left))
 
 same-length : tie.Need-same-length
 same-length c = search needs

@@ -38,7 +38,8 @@ returns c =
     let i = at-loop .loop .i in
     let here = ap isBlank (sym (at-get .get .ensures)) ∙ sym (at-is-blank .is-blank .ensures) ∙ not-true _
     (c .if1 .taken) in
-    sym (and-stop _ _ (blank-next n i (at-loop-test .loop-test .taken)) here) ∙ at-loop .loop .inv
+    let next = blank-next n i (omega (arith, at-loop-test .loop-test .taken)) in
+    sym (and-stop _ _ next here) ∙ at-loop .loop .inv
 
 add-i : tie.Need-add-i Inv-loop μ-loop
 add-i c = search needs
@@ -57,13 +58,15 @@ loop-again c =
     let i = at-loop .loop .i in
     let here = ap isBlank (sym (at-get .get .ensures)) ∙ sym (at-is-blank .is-blank .ensures) ∙ not-false _
     (c .if1 .left) in
-    sym (and-on _ _ (blank-next n i (at-loop-test .loop-test .taken)) here) ∙ at-loop .loop .inv
+    let next = blank-next n i (omega (arith, at-loop-test .loop-test .taken)) in
+    sym (and-on _ _ next here) ∙ at-loop .loop .inv
 
 returns-2 : tie.Need-returns-2 Inv-loop μ-loop
 returns-2 c =
     let at-loop = c .before in
     let start = at-loop .before in
-    sym (blank-end (start .args .numbers .now) (at-loop .loop .i) (c .loop-test .left)) ∙ at-loop .loop .inv
+    sym (blank-end (start .args .numbers .now) (at-loop .loop .i) (omega (arith, c .loop-test .left))) ∙ at-loop .loop
+    .inv
 
 pub are-blank-spec : {M : Type 1} → statement M
 are-blank-spec =

@@ -2,7 +2,7 @@
 use borrow.Author.Needs.{needs}
 use native.Mathlib.Omega.{arith}
 use lib.ListN.{length-set}
-use Rattle.writer.proofs.Puts.{stored-number}
+use Rattle.octets.proofs.Puts.{stored-number}
 use Rattle.writer.proofs.put.number3.Statement.{statement}
 use Rattle.writer.proofs.put.number3.Tie as tie
 

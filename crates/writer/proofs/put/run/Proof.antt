@@ -5,7 +5,7 @@ use Prim.Native.Nat.{_≤_, _-_}
 use native.Mathlib.Omega.{arith}
 use lib.ListN.{length, length-set}
 use lib.Seq.{sets}
-use Rattle.writer.proofs.Puts.{runLeft, run-all, run-next, run-end}
+use Rattle.octets.proofs.Puts.{runLeft, run-all, run-next, run-end}
 use Rattle.writer.proofs.put.run.Statement.{statement}
 use Rattle.writer.proofs.put.run.Tie as tie
 

@@ -5,8 +5,8 @@ use Prim.Native.Nat.{_≤_, _-_}
 use native.Mathlib.Omega.{arith}
 use lib.ListN.{length, length-set, replicate}
 use lib.Seq.{sets}
-use Rattle.writer.proofs.Puts.{runLeft, run-all, zeros-next, zeros-end}
-use Rattle.writer.proofs.Puts.{runLeft, run-all}
+use Rattle.octets.proofs.Puts.{runLeft, run-all, zeros-next, zeros-end}
+use Rattle.octets.proofs.Puts.{runLeft, run-all}
 use Rattle.writer.proofs.put.zeros.Statement.{statement}
 use Rattle.writer.proofs.put.zeros.Tie as tie
 

@@ -1,0 +1,2 @@
+-- The laws of octets that are written one after the other.
+pub mod Puts
