@@ -1,12 +1,13 @@
 -- `walk::frame::avp_at` meets its contract.
 use borrow.Author.Needs.{needs}
 use mathlib.Core.Path.{sym}
+use mathlib.Core.Bool.{true, false}
 use Prim.Native.Nat.{_-_, _≤_}
 use native.Mathlib.Omega.{arith}
 use borrow.Author.Tests.{eq-eqb, ne-eqb}
 use Rattle.rules.specs.Avp.{flagV, flagsAt, lengthAt}
 use Rattle.rules.proofs.Octets.{padded-least}
-use Rattle.rules.proofs.Fields.{header-plain, header-vendor, avpAt-plain, avpAt-vendor}
+use Rattle.rules.proofs.Fields.{header-by, avpAt-by}
 use Rattle.walk.proofs.Framing.{rest-number, rest-code, rest-flags, rest-eight, rest-header}
 use Rattle.walk.proofs.frame.avp_at.Statement.{statement}
 use Rattle.walk.proofs.frame.avp_at.Tie as tie
@@ -41,7 +42,7 @@ sub-t22 c =
     let st = n .before .before .before .before in
     let a = st .args in
     let h = rest-header (a .s .now) (a .at) (a .end) (st .pre .0) (st .pre .1) _ (n .number3 .ensures .is) in
-    omega (arith, header-plain _ _ (ne-eqb _ _ (c .if1 .taken)) h)
+    omega (arith, header-by _ false _ (ne-eqb _ _ (c .if1 .taken)) h)
 
 returns : tie.Need-returns
 returns c =
@@ -53,7 +54,7 @@ returns c =
     let f = st .pre .1 in
     let h = rest-eight s (a .at) (a .end) p f in
     rw (n .number3 .ensures .is, n .before .number4 .ensures .is, rest-number s (a .at) (a .end) p 3 5 h, rest-code s (a .at) (a .end) p h, rest-flags s (a .at) (a .end) p h)
-    (sym (avpAt-plain s (a .at) (a .depth) (ne-eqb _ _ (rw (rest-flags s (a .at) (a .end) p h) at (c .if1 .taken)))))
+    (sym (avpAt-by s (a .at) (a .depth) false (ne-eqb _ _ (rw (rest-flags s (a .at) (a .end) p h) at (c .if1 .taken)))))
 
 number4-requires-2 : tie.Need-number4-requires-2
 number4-requires-2 c κs = search needs
@@ -70,7 +71,7 @@ sub-t26 c =
     let st = n .before .before .before .before in
     let a = st .args in
     let h = rest-header (a .s .now) (a .at) (a .end) (st .pre .0) (st .pre .1) _ (n .number3 .ensures .is) in
-    omega (arith, header-vendor _ _ (eq-eqb _ _ (c .before .if1 .left)) h)
+    omega (arith, header-by _ true _ (eq-eqb _ _ (c .before .if1 .left)) h)
 
 returns-2 : tie.Need-returns-2
 returns-2 c =
@@ -82,9 +83,9 @@ returns-2 c =
     let f = st .pre .1 in
     let h = rest-eight s (a .at) (a .end) p f in
     let v = (eq-eqb _ _ (rw (rest-flags s (a .at) (a .end) p h) at (c .before .if1 .left))) in
-    let t : 12 ≤ a .end - a .at = omega (arith, header-vendor (flagV (flagsAt s (a .at))) _ v (f .header), padded-least (lengthAt s (a .at)), f .fits) in
+    let t : 12 ≤ a .end - a .at = omega (arith, header-by (flagV (flagsAt s (a .at))) true _ v (f .header), padded-least (lengthAt s (a .at)), f .fits) in
     rw (c .number42 .ensures .is, n .number3 .ensures .is, n .before .number4 .ensures .is, rest-number s (a .at) (a .end) p 4 8 t, rest-number s (a .at) (a .end) p 3 5 h, rest-code s (a .at) (a .end) p h, rest-flags s (a .at) (a .end) p h)
-    (sym (avpAt-vendor s (a .at) (a .depth) v))
+    (sym (avpAt-by s (a .at) (a .depth) true v))
 
 pub avp-at-spec : {M : Type 1} → statement M
 avp-at-spec =
