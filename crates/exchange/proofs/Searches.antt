@@ -1,10 +1,9 @@
 -- Laws of a search: a turn looks at the next AVP of the log, and ends with an answer or goes on behind it.
-use mathlib.Core.Path.{_≡_, sym, _∙_}
-use mathlib.Core.Bool.{Bool, true, false}
+use mathlib.Core.Path.{_≡_, refl, sym, _∙_}
+use mathlib.Core.Bool.{Bool, true, false, _&&_}
 use mathlib.Core.List.{List, _∷_}
 use Prim.Native.Nat.{ℕ, _+_, _≤_, _<_}
 use native.Mathlib.Omega.{arith}
-use borrow.Author.Tests.{eq-eqb, ne-eqb}
 use lib.Dec.{eqb}
 use lib.ListN.{drop}
 use Rattle.rules.specs.declared.Avp.{Avp}
@@ -18,20 +17,22 @@ use Rattle.log.proofs.Log.{avps-cons, avps-end}
 use Rattle.rules.specs.Search.{isAt}
 use Rattle.exchange.specs.Positions.{IsFound}
 
--- ---- the name of an AVP
+-- ---- an AVP at a depth with a name: the name first, then the depth
 
-module _ (a : Avp) (vendor code : ℕ) where
-  pub other-vendor : (a .vendor ≡ vendor → ⊥) → false ≡ named a vendor code
-  other-vendor h = rw (ne-eqb (a .vendor) vendor h)
+and-true : (b : Bool) → b ≡ (b && true)
+and-true true = refl
+and-true false = refl
 
-  pub by-code : a .vendor ≡ vendor → eqb (a .code) code ≡ named a vendor code
-  by-code e = rw (eq-eqb (a .vendor) vendor e)
+and-false : (b : Bool) → false ≡ (b && false)
+and-false true = refl
+and-false false = refl
 
-  pub other-depth : (depth : ℕ) → (a .depth ≡ depth → ⊥) → false ≡ isAt a depth vendor code
-  other-depth depth h = rw (ne-eqb (a .depth) depth h)
+module _ (a : Avp) (vendor code depth : ℕ) where
+  pub by-depth : (n : ℕ) → named a vendor code ≡ true → n ≡ a .depth → eqb n depth ≡ isAt a depth vendor code
+  by-depth n h e = rw (h, e) (and-true (eqb (a .depth) depth))
 
-  pub by-name : (depth : ℕ) → a .depth ≡ depth → named a vendor code ≡ isAt a depth vendor code
-  by-name depth e = rw (eq-eqb (a .depth) depth e)
+  pub other-name : named a vendor code ≡ false → false ≡ isAt a depth vendor code
+  other-name h = rw h (and-false (eqb (a .depth) depth))
 
 -- ---- the answer
 

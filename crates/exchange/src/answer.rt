@@ -95,12 +95,7 @@ fn policy_at(log: &[u32; 1792], i: usize, count: usize) -> Outcome
     requires { ⌜ Position i count ⌝ }
     ensures { λ r. ⌜ r ≡ policyAt (avpsIn (now (log .entry)) count) i (avpOf (now (log .entry)) i) ⌝ }
 {
-    if is_at(
-        log::get(log, i),
-        1,
-        TransferPolicy::VENDOR,
-        TransferPolicy::CODE,
-    ) {
+    if is_at(log, i, 1, TransferPolicy::VENDOR, TransferPolicy::CODE) {
         return policy_outcome(log, i, count);
     }
     Outcome::Pass

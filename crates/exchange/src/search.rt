@@ -7,12 +7,10 @@ ghost use Rattle.rules.specs.Avp.{endOf};
 ghost use Rattle.rules.specs.Search.{avpIn, firstFrom};
 ghost use Rattle.rules.specs.Search.{search as searched, member as memberOf};
 ghost use Rattle.rules.specs.Exchange.{require as requireIn};
-ghost use Rattle.log.specs.Log.{avpsIn};
+ghost use Rattle.log.specs.Log.{avpOf, avpsIn};
 ghost use Rattle.rules.specs.Search.{isAt};
 ghost use Rattle.exchange.specs.Positions.{Position, IsFound};
-use avp::is_named;
 use avp::refusal;
-use rules::Avp;
 use rules::Found;
 use rules::Outcome;
 
@@ -22,14 +20,14 @@ pub(crate) fn wide(x: u32) -> usize
     x as usize
 }
 
-// Whether an AVP stands at a depth with a vendor and code.
-pub(crate) fn is_at(a: Avp, depth: usize, vendor: u32, code: u32) -> bool
-    ensures { λ r. ⌜ r ≡ isAt a depth vendor code ⌝ }
+// Whether the AVP at a position stands at a depth with a vendor and code.
+pub(crate) fn is_at(log: &[u32; 1792], i: usize, depth: usize, vendor: u32, code: u32) -> bool
+    ensures { λ r. ⌜ r ≡ isAt (avpOf (now (log .entry)) i) depth vendor code ⌝ }
 {
-    if wide(a.depth) != depth {
-        return false;
+    if log::is_named(log, i, vendor, code) {
+        return wide(log::depth_at(log, i)) == depth;
     }
-    is_named(a, vendor, code)
+    false
 }
 
 // The first AVP from a position on at a depth with a vendor and code, before any AVP above the depth `floor`.
@@ -47,11 +45,10 @@ pub(crate) fn first(
 {
     let mut i = from;
     while i < count {
-        let a = log::get(log, i);
-        if wide(a.depth) < floor {
+        if wide(log::depth_at(log, i)) < floor {
             return Found::Nothing;
         }
-        if is_at(a, depth, vendor, code) {
+        if is_at(log, i, depth, vendor, code) {
             return Found::At(i);
         }
         i += 1;

@@ -9,7 +9,6 @@ use crate::search::end_at;
 use crate::search::member;
 use crate::search::number_of;
 use crate::search::wide;
-use avp::is_named;
 use avp::member_fault;
 use avp::refusal;
 use rules::Found;
@@ -83,9 +82,8 @@ fn window_at(s: &[u8], log: &[u32; 1792], i: usize, count: usize) -> Outcome
     requires { ⌜ Position i count ⌝ }
     ensures { λ r. ⌜ r ≡ windowAt (avpsIn (now (log .entry)) count) (now (s .entry)) i (avpOf (now (log .entry)) i) ⌝ }
 {
-    let a = log::get(log, i);
-    if is_named(a, TimeWindow::VENDOR, TimeWindow::CODE) {
-        return window_outcome(s, log, i, count, wide(a.depth) + 1);
+    if log::is_named(log, i, TimeWindow::VENDOR, TimeWindow::CODE) {
+        return window_outcome(s, log, i, count, wide(log::depth_at(log, i)) + 1);
     }
     Outcome::Pass
 }

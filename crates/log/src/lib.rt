@@ -3,7 +3,7 @@
 ghost use mathlib.Core.Path.{_≡_};
 ghost use Prim.Native.Nat.{_-_, min};
 ghost use lib.ListN.{length};
-ghost use Rattle.rules.specs.Avp.{endOf};
+ghost use Rattle.rules.specs.Avp.{endOf, named};
 ghost use Rattle.log.specs.Log.{bit, putAvp, avpOf};
 use rules::Avp;
 
@@ -104,4 +104,25 @@ pub fn data_end(log: &[u32; 1792], position: usize) -> u32
         return start;
     }
     end
+}
+
+// The depth of the AVP at a position, 0 from 256 on.
+pub fn depth_at(log: &[u32; 1792], position: usize) -> u32
+    ensures { λ r. ⌜ r ≡ avpOf (now (log .entry)) position .depth ⌝ }
+{
+    if 256 <= position {
+        return 0;
+    }
+    log[position * 7]
+}
+
+// Whether the AVP at a position has a vendor and code. A search asks this first, and reads no more of an AVP of another name.
+pub fn is_named(log: &[u32; 1792], position: usize, vendor: u32, code: u32) -> bool
+    ensures { λ r. ⌜ r ≡ named (avpOf (now (log .entry)) position) vendor code ⌝ }
+{
+    if 256 <= position {
+        return avp::is_named(avp::blank(), vendor, code);
+    }
+    let at = position * 7;
+    avp::is_same_name(log[at + 1], log[at + 2], vendor, code)
 }

@@ -8,10 +8,6 @@ use lib.Dec.{lit≤}
 use Rattle.rules.specs.Octets.{numberAt, padded}
 use Rattle.rules.specs.Avp.{codeAt, flagsAt, flagV, flagM, flagP, lengthAt, headerOf, avpAt, endOf}
 
--- the header's octets, where they are known to fit and V is known
-pub header-by : (v known : Bool) (n : ℕ) → v ≡ known → headerOf v ≤ n → headerOf known ≤ n
-header-by v known n e h = rw e at h
-
 module _ (s : List ℕ) (at depth : ℕ) where
   -- the AVP at a place, where V is known
   pub avpAt-by : (v : Bool) → flagV (flagsAt s at) ≡ v → avpAt s at depth ≡ record {

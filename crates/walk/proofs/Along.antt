@@ -14,8 +14,9 @@ use Rattle.rules.proofs.Walk.{after-nil, after-after, avps-after, list-end, lis
 use Rattle.log.specs.Log.{written}
 use Rattle.log.proofs.Log.{written-append}
 use Rattle.walk.specs.declared.Walk.the-variants.{Whole, Stopped}
+use Rattle.walk.specs.declared.Step.the-variants.{On, Halted}
 use Rattle.walk.specs.Promise.{answerOf, AvpWalked, ListWalked}
-use Rattle.walk.proofs.OneAvp.{answer-after}
+use Rattle.walk.proofs.OneAvp.{answer-after, step-on, step-halted}
 
 -- the AVPs so far, and the walk that is left, at `n` steps from the list's start
 pub record Along (s : List ℕ) (start end depth first : ℕ) (before : List ℕ) (n at count : ℕ) (log : List ℕ) : Type 0 where
@@ -58,21 +59,22 @@ module _ (s : List ℕ) (start end depth first : ℕ) (before : List ℕ) where
     turn-on : (met : List Avp) (left : ℕ) → end - at ≤ left
         → walkList n dictionary s start end depth first ≡ after met (walkList left dictionary s at end depth count)
         → count ≡ first + length met → log ≡ written before first met
-        → (c : ℕ) (log′ : List ℕ) → AvpWalked s at end depth count log (Whole c) log′
-        → Along s start end depth first before n (nextAt s at) c log′
-    turn-on met zero h e k l c log′ i = absurd (omega arith)
-    turn-on met (suc m) h e k l c log′ i =
+        → (c next : ℕ) (log′ : List ℕ) → AvpWalked s at end depth count log (On c next) log′
+        → Along s start end depth first before n next c log′
+    turn-on met zero h e k l c next log′ i = absurd (omega arith)
+    turn-on met (suc m) h e k l c next log′ i =
         let w : Walked = walkAvp (walkList m dictionary s) dictionary s at end depth count in
         let xs : List Avp = avpsOf w in
-        let q : (c ≡ count + length xs) × (w ≡ whole xs) = whole-walk count c w (i .answer m h) in
-        let on = i .within c refl in
-        let one : walkList (suc m) dictionary s at end depth count ≡ after xs (walkList m dictionary s (nextAt s at) end depth c) =
-        rw (q .0) (one-more m (whole xs) (q .1)) in
+        let o = step-on (nextAt s at) next c (answerOf count w) (i .answer m h) in
+        let q : (c ≡ count + length xs) × (w ≡ whole xs) = whole-walk count c w (o .1) in
+        let on = i .within c next refl in
+        let one : walkList (suc m) dictionary s at end depth count ≡ after xs (walkList m dictionary s next end depth c) =
+        rw (q .0, ← o .0) (one-more m (whole xs) (q .1)) in
         record {
           met = met ++ xs;
           left = m;
           enough = omega arith;
-          same = e ∙ ap (after met) one ∙ after-after met xs (walkList m dictionary s (nextAt s at) end depth c);
+          same = e ∙ ap (after met) one ∙ after-after met xs (walkList m dictionary s next end depth c);
           counted = rw length-append (omega arith);
           logged = i .logged m h ∙ rw (written-append, ← l, ← k);
         }
@@ -80,7 +82,7 @@ module _ (s : List ℕ) (start end depth first : ℕ) (before : List ℕ) where
     stop-on : (met : List Avp) (left : ℕ) → end - at ≤ left
         → walkList n dictionary s start end depth first ≡ after met (walkList left dictionary s at end depth count)
         → count ≡ first + length met → log ≡ written before first met
-        → (v : Verdict) (log′ : List ℕ) → AvpWalked s at end depth count log (Stopped v) log′
+        → (v : Verdict) (log′ : List ℕ) → AvpWalked s at end depth count log (Halted v) log′
         → (Stopped v ≡ answerOf first (walkList n dictionary s start end depth first))
         × (log′ ≡ written before first (avpsOf (walkList n dictionary s start end depth first)))
     stop-on met zero h e k l v log′ i = absurd (omega arith)
@@ -88,7 +90,7 @@ module _ (s : List ℕ) (start end depth first : ℕ) (before : List ℕ) where
         let w : Walked = walkAvp (walkList m dictionary s) dictionary s at end depth count in
         let xs : List Avp = avpsOf w in
         let one : walkList (suc m) dictionary s at end depth count ≡ stopped xs v =
-        one-more m (stopped xs v) (stopped-walk count v w (i .answer m h)) in
+        one-more m (stopped xs v) (stopped-walk count v w (step-halted (nextAt s at) v (answerOf count w) (i .answer m h))) in
         (rw (e, one), rw (e, one) (i .logged m h ∙ rw (written-append, ← l, ← k)))
 
   -- the loop's invariant
@@ -102,19 +104,19 @@ module _ (s : List ℕ) (start end depth first : ℕ) (before : List ℕ) where
 
   module _ (at count : ℕ) (log : List ℕ) (t : Turn at count log) where
     -- a turn that read an AVP
-    pub turn-again : at < end → (c : ℕ) (log′ : List ℕ) → AvpWalked s at end depth count log (Whole c) log′ → Turn (nextAt s at) c log′
-    turn-again more c log′ i =
-        let on = i .within c refl in
+    pub turn-again : at < end → (c next : ℕ) (log′ : List ℕ) → AvpWalked s at end depth count log (On c next) log′ → Turn next c log′
+    turn-again more c next log′ i =
+        let on = i .within c next refl in
         record {
           order = on .1;
           few = on .2;
           along = λ n h.
               let w = t .along n h in
-              turn-on n at count log more (w .met) (w .left) (w .enough) (w .same) (w .counted) (w .logged) c log′ i;
+              turn-on n at count log more (w .met) (w .left) (w .enough) (w .same) (w .counted) (w .logged) c next log′ i;
         }
 
     -- a turn that stopped at a fault
-    pub turn-stopped : at < end → (v : Verdict) (log′ : List ℕ) → AvpWalked s at end depth count log (Stopped v) log′
+    pub turn-stopped : at < end → (v : Verdict) (log′ : List ℕ) → AvpWalked s at end depth count log (Halted v) log′
         → ListWalked s start end depth first before (Stopped v) log′
     turn-stopped more v log′ i =
         let stop : (n : ℕ) → end - start ≤ n

@@ -8,16 +8,16 @@ ghost use Rattle.rules.specs.Octets.{numberAt};
 ghost use Rattle.rules.specs.Verdict.{refused};
 ghost use Rattle.rules.specs.Avp.{flagV};
 ghost use Rattle.rules.specs.Dictionary.{dictionary, requiresM, isGroup};
-ghost use Rattle.rules.specs.Walk.{wrongFlags, unsupported, wrongWidth, wrongValue, tooDeep, contents, checked};
+ghost use Rattle.rules.specs.Walk.{wrongFlags, unsupported, wrongWidth, wrongValue, tooDeep, contents, checkedAvp, checked};
 ghost use Rattle.walk.specs.Promise.{InList};
 use crate::frame;
+use crate::frame::Frame;
 use avp::is_named;
 use rules::Avp;
 use rules::Checked;
 use rules::Definition;
 use rules::Form;
 use rules::Outcome;
-use rules::Verdict;
 use rules::kinds::AuthSessionState;
 use rules::kinds::TransferRequestType;
 
@@ -153,23 +153,30 @@ fn content(s: &[u8], at: usize, a: Avp, d: Definition) -> Outcome
     Outcome::Pass
 }
 
-// Checks 2 to 7 of the AVP at a place of a list.
-pub(crate) fn check(s: &[u8], at: usize, end: usize, depth: u32) -> Checked
-    requires { ⌜ InList (now s) at end ⌝ }
-    ensures { λ r. ⌜ r ≡ checked dictionary (now (s .entry)) at end depth ⌝ }
+// Checks 3 to 7 of the AVP at a place, and whether its data are a list.
+fn judged(s: &[u8], at: usize, a: Avp) -> Checked
+    requires { ⌜ (at + 8 ≤ length (now s)) × (at < 16777216) ⌝ }
+    ensures { λ r. ⌜ r ≡ checkedAvp dictionary (now (s .entry)) at a ⌝ }
 {
-    let framed = frame::frame(s, at, end);
-    if let Outcome::Refused(v) = framed {
-        return Checked::Fault(v);
-    }
-    let a = frame::avp_at(s, at, end, depth);
     let d = dictionary::definition(a.vendor, a.code);
-    let judged = content(s, at, a, d);
-    if let Outcome::Refused(v) = judged {
+    let outcome = content(s, at, a, d);
+    if let Outcome::Refused(v) = outcome {
         return Checked::Fault(v);
     }
     if is_group(d) {
         return Checked::Group(a);
     }
     Checked::Plain(a)
+}
+
+// Checks 2 to 7 of the AVP at a place of a list.
+pub(crate) fn check(s: &[u8], at: usize, end: usize, depth: u32) -> Checked
+    requires { ⌜ InList (now s) at end ⌝ }
+    ensures { λ r. ⌜ r ≡ checked dictionary (now (s .entry)) at end depth ⌝ }
+{
+    let framed = frame::framed(s, at, end, depth);
+    match framed {
+        Frame::Holds(a) => judged(s, at, a),
+        Frame::Broken(v) => Checked::Fault(v),
+    }
 }

@@ -1,120 +1,106 @@
-// 01, AVP, and Walk, check 2: the fields of the AVP at a place, and whether the octets left in its list hold it. Both are
-// read from the rest of the list, so that one test of its length spares those of each number.
+// 01, AVP, and Walk, check 2: the AVP at a place, if the octets left in its list hold it. Its header is read once, from the
+// rest of the list, so that one test of its length spares those of each number.
 ghost use mathlib.Core.Path.{_≡_};
-ghost use Prim.Native.Nat.{_+_, _<_};
+ghost use Prim.Native.Nat.{_≤_, _<_};
 ghost use Rattle.rules.specs.Octets.{padded};
-ghost use Rattle.rules.specs.Avp.{nextAt, avpAt};
-ghost use Rattle.rules.specs.Walk.{framedBy, framing};
-ghost use Rattle.walk.specs.Promise.{InList, Framed};
+ghost use Rattle.rules.specs.Verdict.{verdict};
+ghost use Rattle.rules.specs.Avp.{avpAt};
+ghost use Rattle.rules.specs.Walk.{framing};
+ghost use Rattle.walk.specs.Promise.{InList, frameOf, misfit, avpBy, nextAfter};
 use rules::Avp;
-use rules::Outcome;
 use rules::Verdict;
+
+// What check 2 gives: the AVP that its list holds, or the fault.
+pub(crate) enum Frame {
+    Holds(Avp),
+    Broken(Verdict),
+}
 
 // A length with the padding to a multiple of four.
 fn padded_length(length: usize) -> usize
-    requires { ⌜ length < 16777216 ⌝ }
+    requires { ⌜ length < 4294967296 ⌝ }
     ensures { λ r. ⌜ r ≡ padded length ⌝ }
 {
     (length + 3) / 4 * 4
 }
 
-// Where the AVP after the one at `at` stands.
-pub(crate) fn next_at(s: &[u8], at: usize) -> usize
-    requires { ⌜ at < 16777216 ⌝ }
-    ensures { λ r. ⌜ r ≡ nextAt (now (s .entry)) at ⌝ }
+// Where the AVP after this one stands.
+pub(crate) fn next_after(a: Avp) -> usize
+    ensures { λ r. ⌜ r ≡ nextAfter a ⌝ }
 {
-    at + padded_length(octets::number3(s, at + 5) as usize)
+    let start = a.start as usize;
+    start + padded_length(a.length as usize)
 }
 
-fn framed_by(
-    at: usize,
-    left: usize,
-    header: usize,
-    length: usize,
-    vendor: u32,
-    code: u32,
-) -> Outcome
-    requires { ⌜ (at < 16777216) × (length < 16777216) ⌝ }
-    ensures { λ r. ⌜ r ≡ framedBy at left header length vendor code ⌝ }
+// Check 2 refuses: the code is given where 8 octets are left, the vendor where 12 are.
+fn fault(at: usize, vendor: u32, code: u32) -> Verdict
+    requires { ⌜ at < 16777216 ⌝ }
+    ensures { λ r. ⌜ r ≡ verdict 5014 at vendor code ⌝ }
 {
-    let fault = Verdict {
+    Verdict {
         number: 5014,
         place: at as u32,
         vendor,
         code,
-    };
-    if length < header {
-        return Outcome::Refused(fault);
     }
-    if left < padded_length(length) {
-        return Outcome::Refused(fault);
-    }
-    Outcome::Pass
 }
 
-// Check 2 of the AVP at a place.
-pub(crate) fn frame(s: &[u8], at: usize, end: usize) -> Outcome
+// The length field is below the header's octets, or with padding beyond what is left.
+fn misfits(left: usize, header: u32, length: u32) -> bool
+    requires { ⌜ length < 16777216 ⌝ }
+    ensures { λ r. ⌜ r ≡ misfit left header length ⌝ }
+{
+    if length < header {
+        return true;
+    }
+    left < padded_length(length as usize)
+}
+
+// The AVP at a place by the fields of its header.
+fn avp_by(at: usize, depth: u32, header: u32, vendor: u32, code: u32, flags: u8, length: u32) -> Avp
+    requires { ⌜ (at < 16777216) × (header ≤ length) × (length < 16777216) ⌝ }
+    ensures { λ r. ⌜ r ≡ avpBy at depth header vendor code flags length ⌝ }
+{
+    let m = flags / 64 % 2;
+    let p = flags / 32 % 2;
+    Avp {
+        depth,
+        vendor,
+        code,
+        m: m == 1,
+        p: p == 1,
+        start: (at + header as usize) as u32,
+        length: length - header,
+    }
+}
+
+// Check 2 of the AVP at a place, in a list at this depth. Each answer is made here, since one that another function makes
+// is copied.
+pub(crate) fn framed(s: &[u8], at: usize, end: usize, depth: u32) -> Frame
     requires { ⌜ InList (now s) at end ⌝ }
-    ensures { λ r. ⌜ r ≡ framing (now (s .entry)) at end ⌝ }
+    ensures { λ r. ⌜ r ≡ frameOf (framing (now (s .entry)) at end) (avpAt (now (s .entry)) at depth) ⌝ }
 {
     let rest = &s[at..end];
     let left = rest.len();
     if left < 8 {
-        return Outcome::Refused(Verdict {
-            number: 5014,
-            place: at as u32,
-            vendor: 0,
-            code: 0,
-        });
+        return Frame::Broken(fault(at, 0, 0));
     }
     let code = octets::number4(rest, 0);
-    let length = octets::number3(rest, 5) as usize;
-    let v = rest[4] / 128 % 2;
+    let flags = rest[4];
+    let length = octets::number3(rest, 5);
+    let v = flags / 128 % 2;
     if v != 1 {
-        return framed_by(at, left, 8, length, 0, code);
+        if misfits(left, 8, length) {
+            return Frame::Broken(fault(at, 0, code));
+        }
+        return Frame::Holds(avp_by(at, depth, 8, 0, code, flags, length));
     }
     if left < 12 {
-        return Outcome::Refused(Verdict {
-            number: 5014,
-            place: at as u32,
-            vendor: 0,
-            code,
-        });
+        return Frame::Broken(fault(at, 0, code));
     }
-    framed_by(at, left, 12, length, octets::number4(rest, 8), code)
-}
-
-// The AVP at a place, in a list at this depth.
-pub(crate) fn avp_at(s: &[u8], at: usize, end: usize, depth: u32) -> Avp
-    requires place { ⌜ InList (now s) at end ⌝ }
-    requires framed { ⌜ Framed (now s) at end ⌝ }
-    ensures { λ r. ⌜ r ≡ avpAt (now (s .entry)) at depth ⌝ }
-{
-    let rest = &s[at..end];
-    let code = octets::number4(rest, 0);
-    let length = octets::number3(rest, 5);
-    let flags = rest[4];
-    let v = flags / 128 % 2;
-    let m = flags / 64 % 2;
-    let p = flags / 32 % 2;
-    if v != 1 {
-        return Avp {
-            depth,
-            vendor: 0,
-            code,
-            m: m == 1,
-            p: p == 1,
-            start: (at + 8) as u32,
-            length: length - 8,
-        };
+    let vendor = octets::number4(rest, 8);
+    if misfits(left, 12, length) {
+        return Frame::Broken(fault(at, vendor, code));
     }
-    Avp {
-        depth,
-        vendor: octets::number4(rest, 8),
-        code,
-        m: m == 1,
-        p: p == 1,
-        start: (at + 12) as u32,
-        length: length - 12,
-    }
+    Frame::Holds(avp_by(at, depth, 12, vendor, code, flags, length))
 }

@@ -13,6 +13,12 @@ pub enum Walk {
     Stopped(Verdict),
 }
 
+// What the AVP walk gives: so many AVPs stand in the log, and the next one of the list at `next`; or the fault.
+enum Step {
+    On { count: usize, next: usize },
+    Halted(Verdict),
+}
+
 // One AVP of the list that ends at `end`, with `count` AVPs in the log already.
 fn walk_avp(
     s: &[u8],
@@ -21,12 +27,12 @@ fn walk_avp(
     depth: u32,
     count: usize,
     log: &mut [u32; 1792],
-) -> Walk
+) -> Step
     requires { ⌜ Ready (now s) at end depth count ⌝ }
     ensures { λ r. ⌜ AvpWalked (now (s .entry)) at end depth count (now (log .entry)) r (now (log .exit)) ⌝ }
 {
     if 256 <= count {
-        return Walk::Stopped(Verdict {
+        return Step::Halted(Verdict {
             number: 7002,
             place: at as u32,
             vendor: 0,
@@ -35,16 +41,26 @@ fn walk_avp(
     }
     let c = check::check(s, at, end, depth);
     match c {
-        Checked::Fault(v) => Walk::Stopped(v),
+        Checked::Fault(v) => Step::Halted(v),
         Checked::Plain(a) => {
             log::put(log, count, a);
-            Walk::Whole(count + 1)
+            Step::On {
+                count: count + 1,
+                next: frame::next_after(a),
+            }
         }
         Checked::Group(a) => {
             log::put(log, count, a);
             let start = a.start as usize;
             let length = a.length as usize;
-            walk_list(s, start, start + length, depth + 1, count + 1, log)
+            let members = walk_list(s, start, start + length, depth + 1, count + 1, log);
+            match members {
+                Walk::Whole(c) => Step::On {
+                    count: c,
+                    next: frame::next_after(a),
+                },
+                Walk::Stopped(v) => Step::Halted(v),
+            }
         }
     }
 }
@@ -66,11 +82,11 @@ fn walk_list(
     while place < end {
         let one = walk_avp(s, place, end, depth, met, log);
         match one {
-            Walk::Whole(c) => {
-                place = frame::next_at(s, place);
+            Step::On { count: c, next } => {
+                place = next;
                 met = c;
             }
-            Walk::Stopped(v) => return Walk::Stopped(v),
+            Step::Halted(v) => return Walk::Stopped(v),
         }
     }
     Walk::Whole(met)

@@ -17,7 +17,7 @@ use Rattle.walk.proofs.walk_list.Kinds as walk-list-kinds
 use Rattle.walk.proofs.+walk_avp+walk_list.Lts-walk_list as walk-list-lts
 use Rattle.log.proofs.put.Reads as put-reads
 use Rattle.walk.proofs.check.check.Reads as check-reads
-use Rattle.walk.proofs.frame.next_at.Reads as next-at-reads
+use Rattle.walk.proofs.frame.next_after.Reads as next-after-reads
 use Rattle.walk.proofs.+walk_avp+walk_list.{statement}
 use Rattle.walk.proofs.+walk_avp+walk_list.Tie.{close}
 
@@ -41,21 +41,25 @@ abbrev walk-list-below : ℕ → In 2 walk-list-kinds.ps
 walk-list-below t =
     and 2 walk-list-kinds.ps (falls 2 walk-list-kinds.ps _<_ μ-walk-list t) walk-list.Pre
 
-walk-avp-cast-t14 : (t : ℕ) → walk-avp-lts.Need-cast-t14 (
+walk-avp-cast-t17 : (t : ℕ) → walk-avp-lts.Need-cast-t17 (
   check-reads.Asked,
   check-reads.Learnt,
   put-reads.Asked,
   put-reads.Learnt,
+  next-after-reads.Asked,
+  next-after-reads.Learnt,
   walk-list-below t,
   walk-list.Post,
 ) (walk-avp-at t) walk-avp.Post
-walk-avp-cast-t14 t c = omega arith
+walk-avp-cast-t17 t c = omega arith
 
 walk-avp-returns : (t : ℕ) → walk-avp-lts.Need-returns (
   check-reads.Asked,
   check-reads.Learnt,
   put-reads.Asked,
   put-reads.Learnt,
+  next-after-reads.Asked,
+  next-after-reads.Learnt,
   walk-list-below t,
   walk-list.Post,
 ) (walk-avp-at t) walk-avp.Post
@@ -70,6 +74,8 @@ walk-avp-check-requires : (t : ℕ) → walk-avp-lts.Need-check-requires (
   check-reads.Learnt,
   put-reads.Asked,
   put-reads.Learnt,
+  next-after-reads.Asked,
+  next-after-reads.Learnt,
   walk-list-below t,
   walk-list.Post,
 ) (walk-avp-at t) walk-avp.Post
@@ -80,6 +86,8 @@ walk-avp-enum-known-c : (t : ℕ) → walk-avp-lts.Need-enum-known-c (
   check-reads.Learnt,
   put-reads.Asked,
   put-reads.Learnt,
+  next-after-reads.Asked,
+  next-after-reads.Learnt,
   walk-list-below t,
   walk-list.Post,
 ) (walk-avp-at t) walk-avp.Post
@@ -90,6 +98,8 @@ walk-avp-enum-known-c-2 : (t : ℕ) → walk-avp-lts.Need-enum-known-c-2 (
   check-reads.Learnt,
   put-reads.Asked,
   put-reads.Learnt,
+  next-after-reads.Asked,
+  next-after-reads.Learnt,
   walk-list-below t,
   walk-list.Post,
 ) (walk-avp-at t) walk-avp.Post
@@ -100,26 +110,44 @@ walk-avp-put-requires : (t : ℕ) → walk-avp-lts.Need-put-requires (
   check-reads.Learnt,
   put-reads.Asked,
   put-reads.Learnt,
+  next-after-reads.Asked,
+  next-after-reads.Learnt,
   walk-list-below t,
   walk-list.Post,
 ) (walk-avp-at t) walk-avp.Post
 walk-avp-put-requires t c κs = search needs
 
-walk-avp-add-t19 : (t : ℕ) → walk-avp-lts.Need-add-t19 (
+walk-avp-add-t22 : (t : ℕ) → walk-avp-lts.Need-add-t22 (
   check-reads.Asked,
   check-reads.Learnt,
   put-reads.Asked,
   put-reads.Learnt,
+  next-after-reads.Asked,
+  next-after-reads.Learnt,
   walk-list-below t,
   walk-list.Post,
 ) (walk-avp-at t) walk-avp.Post
-walk-avp-add-t19 t c = omega arith
+walk-avp-add-t22 t c = omega arith
+
+walk-avp-next-after-requires : (t : ℕ) → walk-avp-lts.Need-next-after-requires (
+  check-reads.Asked,
+  check-reads.Learnt,
+  put-reads.Asked,
+  put-reads.Learnt,
+  next-after-reads.Asked,
+  next-after-reads.Learnt,
+  walk-list-below t,
+  walk-list.Post,
+) (walk-avp-at t) walk-avp.Post
+walk-avp-next-after-requires t c κs = search needs
 
 walk-avp-enum-known-c-3 : (t : ℕ) → walk-avp-lts.Need-enum-known-c-3 (
   check-reads.Asked,
   check-reads.Learnt,
   put-reads.Asked,
   put-reads.Learnt,
+  next-after-reads.Asked,
+  next-after-reads.Learnt,
   walk-list-below t,
   walk-list.Post,
 ) (walk-avp-at t) walk-avp.Post
@@ -130,6 +158,8 @@ walk-avp-put-requires-2 : (t : ℕ) → walk-avp-lts.Need-put-requires-2 (
   check-reads.Learnt,
   put-reads.Asked,
   put-reads.Learnt,
+  next-after-reads.Asked,
+  next-after-reads.Learnt,
   walk-list-below t,
   walk-list.Post,
 ) (walk-avp-at t) walk-avp.Post
@@ -140,6 +170,8 @@ walk-avp-cast-start : (t : ℕ) → walk-avp-lts.Need-cast-start (
   check-reads.Learnt,
   put-reads.Asked,
   put-reads.Learnt,
+  next-after-reads.Asked,
+  next-after-reads.Learnt,
   walk-list-below t,
   walk-list.Post,
 ) (walk-avp-at t) walk-avp.Post
@@ -150,6 +182,8 @@ walk-avp-cast-length : (t : ℕ) → walk-avp-lts.Need-cast-length (
   check-reads.Learnt,
   put-reads.Asked,
   put-reads.Learnt,
+  next-after-reads.Asked,
+  next-after-reads.Learnt,
   walk-list-below t,
   walk-list.Post,
 ) (walk-avp-at t) walk-avp.Post
@@ -160,6 +194,8 @@ walk-avp-add-walk-list : (t : ℕ) → walk-avp-lts.Need-add-walk-list (
   check-reads.Learnt,
   put-reads.Asked,
   put-reads.Learnt,
+  next-after-reads.Asked,
+  next-after-reads.Learnt,
   walk-list-below t,
   walk-list.Post,
 ) (walk-avp-at t) walk-avp.Post
@@ -177,6 +213,8 @@ walk-avp-add-walk-list-2 : (t : ℕ) → walk-avp-lts.Need-add-walk-list-2 (
   check-reads.Learnt,
   put-reads.Asked,
   put-reads.Learnt,
+  next-after-reads.Asked,
+  next-after-reads.Learnt,
   walk-list-below t,
   walk-list.Post,
 ) (walk-avp-at t) walk-avp.Post
@@ -187,6 +225,8 @@ walk-avp-add-walk-list-3 : (t : ℕ) → walk-avp-lts.Need-add-walk-list-3 (
   check-reads.Learnt,
   put-reads.Asked,
   put-reads.Learnt,
+  next-after-reads.Asked,
+  next-after-reads.Learnt,
   walk-list-below t,
   walk-list.Post,
 ) (walk-avp-at t) walk-avp.Post
@@ -197,6 +237,8 @@ walk-avp-walk-list-requires : (t : ℕ) → walk-avp-lts.Need-walk-list-requires
   check-reads.Learnt,
   put-reads.Asked,
   put-reads.Learnt,
+  next-after-reads.Asked,
+  next-after-reads.Learnt,
   walk-list-below t,
   walk-list.Post,
 ) (walk-avp-at t) walk-avp.Post
@@ -214,11 +256,49 @@ walk-avp-walk-list-requires t c κs =
       record { place = omega (arith, p, place); level = omega (arith, l); few = omega (arith, few) },
     )
 
+walk-avp-enum-known-members : (t : ℕ) → walk-avp-lts.Need-enum-known-members (
+  check-reads.Asked,
+  check-reads.Learnt,
+  put-reads.Asked,
+  put-reads.Learnt,
+  next-after-reads.Asked,
+  next-after-reads.Learnt,
+  walk-list-below t,
+  walk-list.Post,
+) (walk-avp-at t) walk-avp.Post
+walk-avp-enum-known-members t c = search needs
+
+walk-avp-next-after-requires-2 : (t : ℕ) → walk-avp-lts.Need-next-after-requires-2 (
+  check-reads.Asked,
+  check-reads.Learnt,
+  put-reads.Asked,
+  put-reads.Learnt,
+  next-after-reads.Asked,
+  next-after-reads.Learnt,
+  walk-list-below t,
+  walk-list.Post,
+) (walk-avp-at t) walk-avp.Post
+walk-avp-next-after-requires-2 t c κs = search needs
+
+walk-avp-enum-known-members-2 : (t : ℕ) → walk-avp-lts.Need-enum-known-members-2 (
+  check-reads.Asked,
+  check-reads.Learnt,
+  put-reads.Asked,
+  put-reads.Learnt,
+  next-after-reads.Asked,
+  next-after-reads.Learnt,
+  walk-list-below t,
+  walk-list.Post,
+) (walk-avp-at t) walk-avp.Post
+walk-avp-enum-known-members-2 t c = search needs
+
 walk-avp-returns-2 : (t : ℕ) → walk-avp-lts.Need-returns-2 (
   check-reads.Asked,
   check-reads.Learnt,
   put-reads.Asked,
   put-reads.Learnt,
+  next-after-reads.Asked,
+  next-after-reads.Learnt,
   walk-list-below t,
   walk-list.Post,
 ) (walk-avp-at t) walk-avp.Post
@@ -234,33 +314,63 @@ walk-avp-returns-3 : (t : ℕ) → walk-avp-lts.Need-returns-3 (
   check-reads.Learnt,
   put-reads.Asked,
   put-reads.Learnt,
+  next-after-reads.Asked,
+  next-after-reads.Learnt,
   walk-list-below t,
   walk-list.Post,
 ) (walk-avp-at t) walk-avp.Post
 walk-avp-returns-3 t c =
-    let g = c .before .before .before in
+    let p = c .before in
+    let g = p .before .before .before in
     let k = g .before .before in
     let st = k .before .before .before in
     let a = st .args in
-    plain-walked (a .s .now) (a .at) (a .end) (a .depth) (a .count) (a .log .now) (k .before .if1 .left)
-    _ (c .put .ensures) (sym (k .check .ensures) ∙ g .c2 .given .1)
+    rw (c .next-after .ensures)
+    (plain-walked (a .s .now) (a .at) (a .end) (a .depth) (a .count) (a .log .now) (k .before .if1 .left)
+    _ (p .put .ensures) (sym (k .check .ensures) ∙ g .c2 .given .1))
 
 walk-avp-returns-4 : (t : ℕ) → walk-avp-lts.Need-returns-4 (
   check-reads.Asked,
   check-reads.Learnt,
   put-reads.Asked,
   put-reads.Learnt,
+  next-after-reads.Asked,
+  next-after-reads.Learnt,
   walk-list-below t,
   walk-list.Post,
 ) (walk-avp-at t) walk-avp.Post
 walk-avp-returns-4 t c =
-    let w = c .before .before .before .before in
+    let m = c .before .before in
+    let l = m .before .before in
+    let w = l .before .before .before .before in
+    let g = w .before .before .before in
+    let k = g .before .before in
+    let st = k .before .before .before in
+    let a = st .args in
+    rw (c .next-after2 .ensures)
+    (group-walked (a .s .now) (a .at) (a .end) (a .depth) (a .count) (a .log .now) (k .before .if1 .left)
+    _ (w .put2 .ensures) (sym (k .check .ensures) ∙ g .c3 .given .1) _ _ (rw (m .members .given .1) at (l .walk-list .ensures)))
+
+walk-avp-returns-5 : (t : ℕ) → walk-avp-lts.Need-returns-5 (
+  check-reads.Asked,
+  check-reads.Learnt,
+  put-reads.Asked,
+  put-reads.Learnt,
+  next-after-reads.Asked,
+  next-after-reads.Learnt,
+  walk-list-below t,
+  walk-list.Post,
+) (walk-avp-at t) walk-avp.Post
+walk-avp-returns-5 t c =
+    let m = c .before in
+    let l = m .before .before in
+    let w = l .before .before .before .before in
     let g = w .before .before .before in
     let k = g .before .before in
     let st = k .before .before .before in
     let a = st .args in
     group-walked (a .s .now) (a .at) (a .end) (a .depth) (a .count) (a .log .now) (k .before .if1 .left)
-    _ (w .put2 .ensures) (sym (k .check .ensures) ∙ g .c3 .given .1) _ _ (c .walk-list .ensures)
+    _ (w .put2 .ensures) (sym (k .check .ensures) ∙ g .c3 .given .1) _ _ (rw (m .members2 .given .1) at (l .walk-list .ensures))
 
 abbrev walk-list-Inv-loop : walk-list-lts.InvT-loop
 walk-list-Inv-loop s at end depth count log₀ place₀ met₀ log place met = Turn s at end depth count log₀ place met log
@@ -268,12 +378,14 @@ walk-list-Inv-loop s at end depth count log₀ place₀ met₀ log place met = T
 abbrev walk-list-μ-loop : walk-list-lts.MeasureT-loop
 walk-list-μ-loop s at end depth count log₀ place₀ met₀ log place met = end - place
 
-walk-list-loop-holds : (t : ℕ) → walk-list-lts.Need-loop-holds (
-  walk-avp-below t,
-  walk-avp.Post,
-  next-at-reads.Asked,
-  next-at-reads.Learnt,
-) (walk-list-at t) walk-list.Post walk-list-Inv-loop walk-list-μ-loop
+walk-list-loop-holds :
+    (t : ℕ) →
+    walk-list-lts.Need-loop-holds
+    (walk-avp-below t, walk-avp.Post)
+    (walk-list-at t)
+    walk-list.Post
+    walk-list-Inv-loop
+    walk-list-μ-loop
 walk-list-loop-holds t c =
     let st = c .before in
     turn-start _ _ _ _ _ _ (st .pre .1 .place .order) (st .pre .1 .few)
@@ -281,8 +393,6 @@ walk-list-loop-holds t c =
 walk-list-walk-avp-requires : (t : ℕ) → walk-list-lts.Need-walk-avp-requires (
   walk-avp-below t,
   walk-avp.Post,
-  next-at-reads.Asked,
-  next-at-reads.Learnt,
 ) (walk-list-at t) walk-list.Post walk-list-Inv-loop walk-list-μ-loop
 walk-list-walk-avp-requires t c κs =
     let lp = c .before .before in
@@ -295,71 +405,64 @@ walk-list-walk-avp-requires t c κs =
 walk-list-enum-known-one : (t : ℕ) → walk-list-lts.Need-enum-known-one (
   walk-avp-below t,
   walk-avp.Post,
-  next-at-reads.Asked,
-  next-at-reads.Learnt,
 ) (walk-list-at t) walk-list.Post walk-list-Inv-loop walk-list-μ-loop
 walk-list-enum-known-one t c = search needs
 
-walk-list-next-at-requires : (t : ℕ) → walk-list-lts.Need-next-at-requires (
-  walk-avp-below t,
-  walk-avp.Post,
-  next-at-reads.Asked,
-  next-at-reads.Learnt,
-) (walk-list-at t) walk-list.Post walk-list-Inv-loop walk-list-μ-loop
-walk-list-next-at-requires t c κs =
-    let lp = c .before .before .before .before .before .before in
-    omega (arith, lp .loop .inv .order, lp .before .before .pre .1 .place)
-
-walk-list-loop-less : (t : ℕ) → walk-list-lts.Need-loop-less (
-  walk-avp-below t,
-  walk-avp.Post,
-  next-at-reads.Asked,
-  next-at-reads.Learnt,
-) (walk-list-at t) walk-list.Post walk-list-Inv-loop walk-list-μ-loop
+walk-list-loop-less :
+    (t : ℕ) →
+    walk-list-lts.Need-loop-less
+    (walk-avp-below t, walk-avp.Post)
+    (walk-list-at t)
+    walk-list.Post
+    walk-list-Inv-loop
+    walk-list-μ-loop
 walk-list-loop-less t c =
-    let w = c .before .before .before .before in
-    let on = w .walk-avp .ensures .within _ (c .before .before .one .given .1) in
-    omega (arith, on, c .next-at .ensures)
+    let w = c .before .before .before in
+    let on = w .walk-avp .ensures .within _ _ (c .before .one .given .1) in
+    omega (arith, on)
 
-walk-list-loop-again : (t : ℕ) → walk-list-lts.Need-loop-again (
-  walk-avp-below t,
-  walk-avp.Post,
-  next-at-reads.Asked,
-  next-at-reads.Learnt,
-) (walk-list-at t) walk-list.Post walk-list-Inv-loop walk-list-μ-loop
+walk-list-loop-again :
+    (t : ℕ) →
+    walk-list-lts.Need-loop-again
+    (walk-avp-below t, walk-avp.Post)
+    (walk-list-at t)
+    walk-list.Post
+    walk-list-Inv-loop
+    walk-list-μ-loop
 walk-list-loop-again t c =
-    let w = c .before .before .before .before in
+    let w = c .before .before .before in
     let lp = w .before .before .before in
-    rw (c .next-at .ensures)
-    (turn-again _ _ _ _ _ _ _ _ _ (lp .loop .inv) (w .before .before .loop-test .taken) _ _
-    (rw (c .before .before .one .given .1) at (w .walk-avp .ensures)))
+    turn-again _ _ _ _ _ _ _ _ _ (lp .loop .inv) (w .before .before .loop-test .taken) _ _ _
+    (rw (c .before .one .given .1) at (w .walk-avp .ensures))
 
 walk-list-enum-known-one-2 : (t : ℕ) → walk-list-lts.Need-enum-known-one-2 (
   walk-avp-below t,
   walk-avp.Post,
-  next-at-reads.Asked,
-  next-at-reads.Learnt,
 ) (walk-list-at t) walk-list.Post walk-list-Inv-loop walk-list-μ-loop
 walk-list-enum-known-one-2 t c = search needs
 
-walk-list-returns : (t : ℕ) → walk-list-lts.Need-returns (
-  walk-avp-below t,
-  walk-avp.Post,
-  next-at-reads.Asked,
-  next-at-reads.Learnt,
-) (walk-list-at t) walk-list.Post walk-list-Inv-loop walk-list-μ-loop
+walk-list-returns :
+    (t : ℕ) →
+    walk-list-lts.Need-returns
+    (walk-avp-below t, walk-avp.Post)
+    (walk-list-at t)
+    walk-list.Post
+    walk-list-Inv-loop
+    walk-list-μ-loop
 walk-list-returns t c =
     let w = c .before .before .before in
     let lp = w .before .before .before in
     turn-stopped _ _ _ _ _ _ _ _ _ (lp .loop .inv) (w .before .before .loop-test .taken) _ _
     (rw (c .before .one2 .given .1) at (w .walk-avp .ensures))
 
-walk-list-returns-2 : (t : ℕ) → walk-list-lts.Need-returns-2 (
-  walk-avp-below t,
-  walk-avp.Post,
-  next-at-reads.Asked,
-  next-at-reads.Learnt,
-) (walk-list-at t) walk-list.Post walk-list-Inv-loop walk-list-μ-loop
+walk-list-returns-2 :
+    (t : ℕ) →
+    walk-list-lts.Need-returns-2
+    (walk-avp-below t, walk-avp.Post)
+    (walk-list-at t)
+    walk-list.Post
+    walk-list-Inv-loop
+    walk-list-μ-loop
 walk-list-returns-2 t c = turn-end _ _ _ _ _ _ _ _ _ (c .before .loop .inv) (c .loop-test .left)
 
 pub +walk-avp+walk-list-spec : {M : Type 1} → statement M
@@ -368,18 +471,21 @@ pub +walk-avp+walk-list-spec : {M : Type 1} → statement M
   check-reads.Learnt,
   put-reads.Asked,
   put-reads.Learnt,
+  next-after-reads.Asked,
+  next-after-reads.Learnt,
   walk-list-below t,
   walk-list.Post,
 )
     (walk-avp-at t)
     walk-avp.Post
-    (walk-avp-cast-t14 t)
+    (walk-avp-cast-t17 t)
     (walk-avp-returns t)
     (walk-avp-check-requires t)
     (walk-avp-enum-known-c t)
     (walk-avp-enum-known-c-2 t)
     (walk-avp-put-requires t)
-    (walk-avp-add-t19 t)
+    (walk-avp-add-t22 t)
+    (walk-avp-next-after-requires t)
     (walk-avp-enum-known-c-3 t)
     (walk-avp-put-requires-2 t)
     (walk-avp-cast-start t)
@@ -388,11 +494,15 @@ pub +walk-avp+walk-list-spec : {M : Type 1} → statement M
     (walk-avp-add-walk-list-2 t)
     (walk-avp-add-walk-list-3 t)
     (walk-avp-walk-list-requires t)
+    (walk-avp-enum-known-members t)
+    (walk-avp-next-after-requires-2 t)
+    (walk-avp-enum-known-members-2 t)
     (walk-avp-returns-2 t)
     (walk-avp-returns-3 t)
-    (walk-avp-returns-4 t))
+    (walk-avp-returns-4 t)
+    (walk-avp-returns-5 t))
     λ t. walk-list-lts.spec
-    (walk-avp-below t, walk-avp.Post, next-at-reads.Asked, next-at-reads.Learnt)
+    (walk-avp-below t, walk-avp.Post)
     (walk-list-at t)
     walk-list.Post
     walk-list-Inv-loop
@@ -400,7 +510,6 @@ pub +walk-avp+walk-list-spec : {M : Type 1} → statement M
     (walk-list-loop-holds t)
     (walk-list-walk-avp-requires t)
     (walk-list-enum-known-one t)
-    (walk-list-next-at-requires t)
     (walk-list-loop-less t)
     (walk-list-loop-again t)
     (walk-list-enum-known-one-2 t)

@@ -17,28 +17,30 @@ abbrev μ-loop : tie.MeasureT-loop
 loop-holds : tie.Need-loop-holds Inv-loop μ-loop
 loop-holds c = refl
 
-get-requires : tie.Need-get-requires Inv-loop μ-loop
-get-requires c κs = search needs
+depth-at-requires : tie.Need-depth-at-requires Inv-loop μ-loop
+depth-at-requires c κs = search needs
 
 wide-requires : tie.Need-wide-requires Inv-loop μ-loop
 wide-requires c κs = search needs
 
 returns : tie.Need-returns Inv-loop μ-loop
 returns c =
-    let g = c .before .before in
-    let t = g .before in
+    let w = c .before in
+    let t = w .before .before in
     let l = t .before in
-    found-above _ _ _ _ _ _ _ _ (l .before .pre) (l .loop .inv) _ (g .get .ensures) (t .loop-test .taken) (omega arith)
+    found-above _ _ _ _ _ _ _ _ (l .before .pre) (l .loop .inv) _ refl (t .loop-test .taken)
+    (omega (arith, w .wide .ensures .is, w .before .depth-at .ensures))
 
 is-at-requires : tie.Need-is-at-requires Inv-loop μ-loop
 is-at-requires c κs = search needs
 
 returns-2 : tie.Need-returns-2 Inv-loop μ-loop
 returns-2 c =
-    let g = c .before .before .before .before in
-    let t = g .before in
+    let w = c .before .before .before in
+    let t = w .before .before in
     let l = t .before in
-    found-here _ _ _ _ _ _ _ _ (l .before .pre) (l .loop .inv) _ (g .get .ensures) (t .loop-test .taken) (omega arith)
+    found-here _ _ _ _ _ _ _ _ (l .before .pre) (l .loop .inv) _ refl (t .loop-test .taken)
+    (omega (arith, w .wide .ensures .is, w .before .depth-at .ensures))
     _ (c .before .is-at .ensures) (c .if2 .taken)
 
 add-i : tie.Need-add-i Inv-loop μ-loop
@@ -49,10 +51,11 @@ loop-less c = omega arith
 
 loop-again : tie.Need-loop-again Inv-loop μ-loop
 loop-again c =
-    let g = c .before .before .before .before in
-    let t = g .before in
+    let w = c .before .before .before in
+    let t = w .before .before in
     let l = t .before in
-    left-later _ _ _ _ _ _ _ _ (l .before .pre) (l .loop .inv) _ (g .get .ensures) (t .loop-test .taken) (omega arith)
+    left-later _ _ _ _ _ _ _ _ (l .before .pre) (l .loop .inv) _ refl (t .loop-test .taken)
+    (omega (arith, w .wide .ensures .is, w .before .depth-at .ensures))
     _ (c .before .is-at .ensures) (c .if2 .left)
 
 returns-3 : tie.Need-returns-3 Inv-loop μ-loop
@@ -67,7 +70,7 @@ first-spec =
     Inv-loop
     μ-loop
     loop-holds
-    get-requires
+    depth-at-requires
     wide-requires
     returns
     is-at-requires
