@@ -114,7 +114,8 @@ demand-3-commands a b oa ob ka kb = same-meaning a b oa ob (command-number a .0 
 -- "Now take any two lists of write calls, of any length, with whatever drafts and whatever room, refused calls
 -- included. [...] After both lists, the octets that each has written end to end are the same exactly when the accepted
 -- drafts are equally many in both and, taken in order, have the same meaning." One claim about both lists; the accepted
--- drafts are those whose answer has the number 0.
+-- drafts are those whose answer has the number 0. A draft stands here with its octets as they are at its call, whatever
+-- the calls before wrote; they do not lie in the part that the call gets, so the call leaves them as they are.
 -- Carried by same-written (calls/Calls), draft-meaning (written/Drafts: an accepted draft's octets have its meaning)
 -- and head-written (written/Writing: the length field cuts a command off from what follows).
 -- Ruled out: a writer whose commands have no length of their own, so that two lists join to the same octets with

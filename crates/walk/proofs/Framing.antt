@@ -20,7 +20,7 @@ use Rattle.rules.specs.Avp.{codeAt, flagsAt, flagV, lengthAt, avpAt}
 use Rattle.rules.specs.Dictionary.{dictionary}
 use Rattle.rules.specs.Walk.{framedBy, framing, checkedAvp, checked}
 use Rattle.rules.proofs.Octets.{numberAt-part}
-use Rattle.rules.proofs.Fields.{avpAt-plain, avpAt-vendor}
+use Rattle.rules.proofs.Fields.{avpAt-by}
 use Rattle.rules.proofs.Passed.{Framed, framed}
 use Rattle.rules.proofs.Walk.{by-cases, framing-left, framing-plain, framing-vendor-left, framing-vendor, checked-frame}
 use Rattle.walk.specs.declared.frame.Frame.{Frame}
@@ -125,11 +125,11 @@ module _ (s : List ℕ) (at end : ℕ) (place : InList s at end) where
         pub read-plain : flagV (getD restOf 4 0) ≡ false → By 8 0
         read-plain v =
             let w = rw (rest-flags left) at v in
-            read-by 8 0 (framing-plain s at end left w) (avpAt-plain s at depth w)
+            read-by 8 0 (framing-plain s at end left w) (avpAt-by s at depth false w)
 
         pub read-vendor : flagV (getD restOf 4 0) ≡ true → 12 ≤ length restOf → {vendor : ℕ} → vendor ≡ numberAt 4 restOf 8 → By 12 vendor
         read-vendor v h vendorIs =
             let w = rw (rest-flags left) at v in
             let k = rw rest-left at h in
             rw (vendorIs, rest-number 4 8 k)
-            (read-by 12 (numberAt 4 s (at + 8)) (framing-vendor s at end k w) (avpAt-vendor s at depth w))
+            (read-by 12 (numberAt 4 s (at + 8)) (framing-vendor s at end k w) (avpAt-by s at depth true w))

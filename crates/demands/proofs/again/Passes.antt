@@ -6,22 +6,20 @@ use mathlib.Core.List.{List, [], _∷_, map}
 use Prim.Native.Nat.{ℕ, zero, suc, _+_, _≤_}
 use native.Mathlib.Omega.{arith}
 use borrow.Author.Tests.{lt-leb}
-use lib.Dec.{leb}
 use lib.ListN.{length, drop}
 use Rattle.rules.specs.declared.Avp.{Avp}
 use Rattle.rules.specs.declared.Outcome.the-variants.{Pass}
 use Rattle.rules.specs.Octets.{numberAt}
 use Rattle.rules.specs.Avp.{named}
 use Rattle.rules.specs.Dictionary.{Entry, dictionary}
-use Rattle.rules.specs.Walk.{mostAvps, whole, after}
+use Rattle.rules.specs.Walk.{whole, after}
 use Rattle.rules.specs.Search.{blank, avpIn}
 use Rattle.rules.specs.Meaning.{Cell}
-use Rattle.rules.proofs.Walk.{by-cases}
 use Rattle.demands.proofs.items.Items.{Item, cellIn, octetsOf, step, avpOf, avpsAt, All, Fit, judged}
 use Rattle.demands.proofs.items.Sequences.{octets-cons, past-item, avps-nil, avps-cons}
 use Rattle.demands.proofs.items.Lists.{not-both}
-use Rattle.demands.proofs.written.Judged.{by-outcome, contentsOf, judged-many, judged-refused, judged-pass, judged-nil}
-use Rattle.demands.proofs.written.Cells.{never-whole, after-whole}
+use Rattle.demands.proofs.written.Judged.{contentsOf, judged-pass, judged-nil}
+use Rattle.demands.proofs.written.Cells.{first-passes}
 use Rattle.demands.proofs.agreement.Depths.{flat}
 use Rattle.demands.proofs.agreement.Alike.{step-same}
 use Rattle.demands.proofs.again.Contents.{Four, four-same, contents-again}
@@ -37,14 +35,8 @@ module _ (dict : List Entry) (s : List ℕ) where
       → Passes dict s at xs
   passes-of [] count at avps e = tt
   passes-of (x ∷ xs) count at avps e =
-      by-cases (leb mostAvps count)
-      (λ m. never-whole (sym (judged-many dict s count at x xs m) ∙ e))
-      (λ m. by-outcome (contentsOf dict s at x)
-      (λ o.
-      let i = after-whole (avpOf at x ∷ []) avps (judged dict s (count + 1) (at + step x) xs)
-      (sym (judged-pass dict s count at x xs m o) ∙ e) in
-      (o, passes-of xs (count + 1) (at + step x) (i .0) (i .1)))
-      (λ v o. never-whole (sym (judged-refused dict s count at x xs m o) ∙ e)))
+      let i = first-passes dict s x xs count at avps e in
+      (i .pass, passes-of xs (count + 1) (at + step x) (i .rest) (i .rest-is))
 
   pub judged-whole : (xs : List Item) (count at : ℕ) → count + length xs ≤ 256 → Passes dict s at xs
       → judged dict s count at xs ≡ whole (avpsAt at xs)

@@ -45,14 +45,15 @@ padding-cons at x xs i =
     let e : endOf (avpOf at x) - at ≡ h + x .cell .length = omega arith in
     rw (place-is at x, e, padded-header (hasVendor (x .cell)) (x .cell .length))
 
+-- within an item's header and data, where the items behind have no padding
+before-padding : (at : ℕ) (x : Item) (xs : List Item) (i : ℕ) → i < at + headerOf (hasVendor (x .cell)) + x .cell .length
+    → isPadding (avpsAt (at + step x) xs) i ≡ false → isPadding (avpsAt at (x ∷ xs)) i ≡ false
+before-padding at x xs i h r = padding-cons at x xs i ∙ simp (lt-leb _ _ h, r)
+
 pub padding-below : (xs : List Item) (at i : ℕ) → i < at → isPadding (avpsAt at xs) i ≡ false
 padding-below [] at i h = padding-nil at i
 padding-below (x ∷ xs) at i h =
-    padding-cons at x xs i
-    ∙ simp (
-      lt-leb (at + headerOf (hasVendor (x .cell)) + x .cell .length) i (omega arith),
-      padding-below xs (at + step x) i (omega arith),
-    )
+    before-padding at x xs i (omega arith) (padding-below xs (at + step x) i (omega arith))
 
 module _ (dict : List Entry) (x : Item) (fit : Fit dict x) (tight : Tight dict x) (xs : List Item) (at i : ℕ) where
   -- an item that is a read group, and one that is not
@@ -72,11 +73,7 @@ module _ (dict : List Entry) (x : Item) (fit : Fit dict x) (tight : Tight dict x
       let l = padded-least (x .cell .length) in
       let b : front x ≤ headerOf (hasVendor (x .cell)) + x .cell .length =
       parts (λ d t p. omega arith) (λ d p. omega arith) in
-      padding-cons at x xs i
-      ∙ simp (
-        lt-leb (at + headerOf (hasVendor (x .cell)) + x .cell .length) i (omega arith),
-        padding-below xs (at + step x) i (omega arith),
-      )
+      before-padding at x xs i (omega arith) (padding-below xs (at + step x) i (omega arith))
 
   pub padding-fill : at + front x ≤ i → i < at + step x → isPadding (avpsAt at (x ∷ xs)) i ≡ true
   padding-fill h k =

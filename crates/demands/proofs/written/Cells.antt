@@ -2,7 +2,7 @@
 use mathlib.Core.Path.{_≡_, refl, sym, ap, _∙_}
 use mathlib.Core.Bool.{cond}
 use mathlib.Core.List.{List, [], _∷_, _++_, map}
-use Prim.Native.Nat.{ℕ, _+_, _≤_}
+use Prim.Native.Nat.{ℕ, _+_, _≤_, _<_}
 use native.Mathlib.Omega.{arith}
 use borrow.Author.Tests.{leb-false}
 use lib.Dec.{leb}
@@ -10,6 +10,7 @@ use lib.ListN.{length, take, drop}
 use lib.Seq.{take-at}
 use Rattle.rules.specs.declared.Avp.{Avp}
 use Rattle.rules.specs.declared.Verdict.{Verdict}
+use Rattle.rules.specs.declared.Outcome.the-variants.{Pass}
 use Rattle.rules.specs.Avp.{headerOf}
 use Rattle.rules.specs.Dictionary.{Entry}
 use Rattle.rules.specs.Walk.{mostAvps, Walked, whole, stopped, after}
@@ -53,6 +54,27 @@ module _ (dict : List Entry) (s : List ℕ) where
       let ih = cells-of xs post (at + step x) (f .1) (past-item x s _ at d) in
       ap (map (cellOf dict s)) (avps-cons at x xs) ∙ rw (cell-of x _ at (f .0) d, ih)
 
+  -- the first item of a walk that is whole passes, below the limit; the walk of the others is whole
+  pub record FirstPasses (x : Item) (xs : List Item) (count at : ℕ) (avps : List Avp) : Type 0 where
+    pub few : count < mostAvps
+    pub pass : contentsOf dict s at x ≡ Pass
+    pub rest : List Avp
+    pub rest-is : judged dict s (count + 1) (at + step x) xs ≡ whole rest
+    pub first-is : avps ≡ avpOf at x ∷ rest
+
+  pub first-passes : (x : Item) (xs : List Item) (count at : ℕ) (avps : List Avp)
+      → judged dict s count at (x ∷ xs) ≡ whole avps → FirstPasses x xs count at avps
+  first-passes x xs count at avps e =
+      by-cases (leb mostAvps count)
+      (λ m. never-whole (sym (judged-many dict s count at x xs m) ∙ e))
+      (λ m. by-outcome (contentsOf dict s at x)
+      (λ o.
+      let i =
+      after-whole (avpOf at x ∷ []) avps (judged dict s (count + 1) (at + step x) xs)
+      (sym (judged-pass dict s count at x xs m o) ∙ e) in
+      record { few = leb-false mostAvps count m; pass = o; rest = i .0; rest-is = i .1; first-is = i .2 })
+      (λ v o. never-whole (sym (judged-refused dict s count at x xs m o) ∙ e)))
+
   -- a walk that is whole gave each item's AVP, and no more than 256
   pub record Within (count at : ℕ) (xs : List Item) (avps : List Avp) : Type 0 where
     pub avps-are : avps ≡ avpsAt at xs
@@ -66,16 +88,9 @@ module _ (dict : List Entry) (s : List ℕ) where
       let y : [] ≡ avps = cc in
       record { avps-are = sym y ∙ sym (avps-nil at); few = omega arith }
   within (x ∷ xs) count at avps h e =
-      by-cases (leb mostAvps count)
-      (λ m. never-whole (sym (judged-many dict s count at x xs m) ∙ e))
-      (λ m. by-outcome (contentsOf dict s at x)
-      (λ o.
-      let i =
-      after-whole (avpOf at x ∷ []) avps (judged dict s (count + 1) (at + step x) xs)
-      (sym (judged-pass dict s count at x xs m o) ∙ e) in
-      let w = within xs (count + 1) (at + step x) (i .0) (omega (arith, leb-false 256 count m)) (i .1) in
+      let i = first-passes x xs count at avps e in
+      let w = within xs (count + 1) (at + step x) (i .rest) (omega (arith, i .few)) (i .rest-is) in
       record {
-        avps-are = i .2 ∙ ap (λ (l : List Avp). avpOf at x ∷ l) (w .avps-are) ∙ sym (avps-cons at x xs);
+        avps-are = i .first-is ∙ ap (λ (l : List Avp). avpOf at x ∷ l) (w .avps-are) ∙ sym (avps-cons at x xs);
         few = omega (arith, w .few);
-      })
-      (λ v o. never-whole (sym (judged-refused dict s count at x xs m o) ∙ e)))
+      }
