@@ -17,13 +17,14 @@ mod record;
 pub mod rows;
 mod verdict;
 mod walk;
+pub mod write_coverage;
 mod writer;
 
 pub use book::{listing, pieces, Piece, LONGEST_BOOK};
 pub use draft::{Draft, Place};
 pub use record::{data, search, Avp, Record, MOST_AVPS};
 pub use verdict::{number, Verdict};
-pub use writer::{write, Written};
+pub use writer::{length, write, Written};
 
 use header::Header;
 use walk::{Forget, Keep};

@@ -36,7 +36,7 @@ fn command(draft: &Draft, octets: &[u8], room: usize) -> Result<Vec<u8>, Verdict
     if is_malformed(draft, octets) {
         return refuse(number::MALFORMED_DRAFT);
     }
-    let length = HEADER as u64 + list_length(draft.used());
+    let length = length(draft);
     if length > LONGEST_COMMAND as u64 {
         return refuse(number::COMMAND_TOO_LONG);
     }
@@ -85,6 +85,11 @@ fn has_group_lengths(places: &[Place]) -> bool {
         !place.is_group()
             || (u64::from(place.length) == list_length(members) && has_group_lengths(members))
     })
+}
+
+/// Octets of the command that a draft stands for, by the lengths in its own list.
+pub fn length(draft: &Draft) -> u64 {
+    HEADER as u64 + list_length(draft.used())
 }
 
 /// Octets of a list's AVPs with padding, by the lengths that its own places have.

@@ -1,6 +1,7 @@
 //! Generates commands and books from a seed: sound ones of every shape, and ones made wrong.
 
 mod books;
+pub mod drafts;
 mod mutate;
 mod prng;
 mod sound;
