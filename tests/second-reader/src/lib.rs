@@ -6,6 +6,7 @@
 
 mod avp;
 mod book;
+pub mod calls;
 pub mod coverage;
 pub mod dictionary;
 pub mod draft;
@@ -13,8 +14,12 @@ mod exchange;
 mod gaps;
 pub mod generate;
 mod header;
+pub mod meaning;
+pub mod properties;
 mod record;
 pub mod rows;
+mod shrink;
+pub mod trial;
 mod verdict;
 mod walk;
 pub mod write_coverage;

@@ -2,6 +2,7 @@
 
 mod books;
 pub mod drafts;
+pub mod lists;
 mod mutate;
 mod prng;
 mod sound;

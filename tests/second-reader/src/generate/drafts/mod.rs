@@ -8,7 +8,7 @@ mod room;
 mod source;
 
 pub use damage::{Field, Flag, Spot, Way};
-pub use lend::settle;
+pub use lend::{lend, settle};
 pub use room::{room, Room};
 pub use source::Origin;
 
