@@ -1,4 +1,4 @@
-/* Talazumir: the proved reader of Nt commands, for C callers. Link with target/staticlib/libboundary.a, which
+/* Talazumir: the proved reader and writer of Nt commands, for C callers. Link with target/staticlib/libboundary.a, which
  * `rt staticlib boundary` proves and builds (x86-64 Linux).
  *
  * Each function has one answer for every content of what it is handed; there is no error besides the answers below. What
@@ -48,8 +48,8 @@ extern "C" {
 #define TALAZUMIR_AVP_START 5
 #define TALAZUMIR_AVP_LENGTH 6
 
-/* What comes back for a command: the number (table below), the place, counted in octets from the command's start, and the
- * Vendor-Id and code of the AVP at fault. An accepted command has four times 0.
+/* What comes back for a command or a draft: the number (table below), the place, counted in octets from the command's start,
+ * and the Vendor-Id and code of the AVP at fault. An accepted one has four times 0.
  *
  *      0  accepted
  *   3001  command code                3007  application
@@ -59,15 +59,22 @@ extern "C" {
  *   5009  AVP too many times          5011  version
  *   5014  AVP length                  5015  command length
  *   7001  longer than 16,384 octets   7002  257th AVP
- *   7003  group at depth 4            7005  error answer
+ *   7003  group at depth 4            7004  output too short (writer)
+ *   7005  error answer                7006  malformed draft (writer)
  *
  * The place is the first octet of the AVP at fault; for 5005 the end of the list that lacks the AVP, with the missing
- * vendor and code. Header refusals and 7002 have vendor and code 0. */
+ * vendor and code. Header refusals and 7002 have vendor and code 0; 7004, 7006 and the writer's 7001 have place 0 too. */
 struct TalazumirVerdict {
     uint32_t number;
     uint32_t place;
     uint32_t vendor;
     uint32_t code;
+};
+
+/* What comes back for a draft: the verdict, and how many octets were written, 0 with a refusal. */
+struct TalazumirWritten {
+    struct TalazumirVerdict verdict;
+    uint32_t length;
 };
 
 /* A part of a slice. */
@@ -93,6 +100,23 @@ struct TalazumirPart talazumir_data(const uint32_t record[TALAZUMIR_RECORD_NUMBE
 /* The position of the first AVP at depth 1 with this vendor and code, TALAZUMIR_NONE exactly where there is none, for
  * whatever numbers the record holds. */
 uint32_t talazumir_search(const uint32_t record[TALAZUMIR_RECORD_NUMBERS], uint32_t vendor, uint32_t code);
+
+/* Writes the draft, which is the record over the lent octets, as a command to the start of the output. Any numbers may stand
+ * in the record; the first of these that applies is the answer:
+ *
+ *   7006  the count exceeds 256; a number of an unused position is not 0; the data of an AVP that is no group leave the
+ *         octets; the first depth is not 1, a depth is 0 or above 4, or one grows by more than 1 or not right after a group;
+ *         a group's length is not that of its members with padding; R, P, E, T, M or P of a position is neither 0 nor 1
+ *   7001  the command would be longer than 16,384 octets
+ *   7004  it would be longer than the room
+ *         the refusal that talazumir_read gives to the command's octets
+ *      0  the command stands in the output, as many octets as the length says
+ *
+ * Groups are the AVPs 260, 284 and 297 without vendor, and 628, 4204 and 4207 of vendor 10415; their starts are not looked
+ * at. V is set exactly where the vendor is not 0; padding and reserved bits are 0. With a refusal the whole output stays as
+ * it was, else the octets past the length. */
+struct TalazumirWritten talazumir_write(const uint32_t record[TALAZUMIR_RECORD_NUMBERS], const uint8_t *octets, size_t length,
+                                        uint8_t *out, size_t room);
 
 #ifdef __cplusplus
 }

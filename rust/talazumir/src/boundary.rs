@@ -1,6 +1,6 @@
 //! The exported functions of the proved archive. All `unsafe` of this crate stands here.
 
-use crate::{Verdict, LOG_NUMBERS, RECORD_NUMBERS};
+use crate::{Verdict, Written, LOG_NUMBERS, RECORD_NUMBERS};
 
 /// A part of a slice, as it crosses the boundary.
 #[repr(C)]
@@ -14,6 +14,7 @@ extern "C" {
     fn talazumir_read(octets: *const u8, length: usize, record: *mut u32) -> Verdict;
     fn talazumir_data(record: *const u32, position: usize, octets: *const u8, length: usize) -> Part;
     fn talazumir_search(record: *const u32, vendor: u32, code: u32) -> u32;
+    fn talazumir_write(record: *const u32, octets: *const u8, length: usize, out: *mut u8, room: usize) -> Written;
 }
 
 // Each call below is sound for the same reasons. The pointers come from references, so they are not null and live through
@@ -38,4 +39,9 @@ pub(crate) fn data(record: &[u32; RECORD_NUMBERS], position: usize, octets: &[u8
 pub(crate) fn search(record: &[u32; RECORD_NUMBERS], vendor: u32, code: u32) -> u32 {
     // SAFETY: the record of 1,799 numbers is only read; see above.
     unsafe { talazumir_search(record.as_ptr(), vendor, code) }
+}
+
+pub(crate) fn write(record: &[u32; RECORD_NUMBERS], octets: &[u8], out: &mut [u8]) -> Written {
+    // SAFETY: the record of 1,799 numbers and the slice are only read, the output is written; see above.
+    unsafe { talazumir_write(record.as_ptr(), octets.as_ptr(), octets.len(), out.as_mut_ptr(), out.len()) }
 }
