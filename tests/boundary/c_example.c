@@ -1,4 +1,5 @@
-/* Reads document 01's commands S, S without its last AVP, and H through the boundary, and prints what comes back. */
+/* Reads document 01's commands S, S without its last AVP, and H through the boundary, writes S and drafts that differ from
+ * it, and prints what comes back. */
 #include <inttypes.h>
 #include <stdio.h>
 #include <string.h>
@@ -58,6 +59,51 @@ static size_t used(const uint32_t *numbers, size_t count) {
     return n;
 }
 
+static void print_written(const char *name, struct TalazumirWritten w) {
+    print_verdict(name, w.verdict);
+    printf("  %" PRIu32 " octets\n", w.length);
+}
+
+/* How many octets are not those of S. */
+static size_t unlike_s(const uint8_t *octets) {
+    size_t n = 0;
+    for (size_t i = 0; i < sizeof S; i++) {
+        n += octets[i] != S[i];
+    }
+    return n;
+}
+
+/* How many octets are not the old ones. */
+static size_t altered(const uint8_t *octets, size_t count) {
+    size_t n = 0;
+    for (size_t i = 0; i < count; i++) {
+        n += octets[i] != 0xA5;
+    }
+    return n;
+}
+
+static void write_drafts(void) {
+    uint8_t out[170];
+    memset(out, 0xA5, sizeof out);
+    talazumir_read(S, sizeof S, record);
+    print_written("S written", talazumir_write(record, S, sizeof S, out, sizeof out));
+    printf("octets unlike S: %zu\n", unlike_s(out));
+    printf("octets altered past the length: %zu\n", altered(out + sizeof S, sizeof out - sizeof S));
+    record[TALAZUMIR_HOP_BY_HOP] = 7;
+    print_written("S with hop-by-hop 7", talazumir_write(record, S, sizeof S, out, sizeof S));
+    printf("octets unlike S: %zu\n", unlike_s(out));
+
+    memset(out, 0xA5, sizeof out);
+    print_written("S in 159 octets", talazumir_write(record, S, sizeof S, out, sizeof S - 1));
+    print_written("S over 159 octets", talazumir_write(record, S, sizeof S - 1, out, sizeof out));
+    record[TALAZUMIR_T] = 2;
+    print_written("S with T of 2", talazumir_write(record, S, sizeof S, out, sizeof out));
+    record[TALAZUMIR_T] = 0;
+    record[TALAZUMIR_POSITION(10) + TALAZUMIR_AVP_M] = 0;
+    print_written("S with 4208 without M", talazumir_write(record, S, sizeof S, out, sizeof out));
+    printf("octets altered by refusals: %zu\n", altered(out, sizeof out));
+}
+
 int main(void) {
     memset(record, 0xFF, sizeof record);
     print_verdict("S", talazumir_read(S, sizeof S, record));
@@ -98,5 +144,7 @@ int main(void) {
     h[3] = sizeof h;
     print_verdict("H", talazumir_verdict(h, sizeof h, log_numbers));
     print_verdict("empty slice", talazumir_verdict(S, 0, log_numbers));
+
+    write_drafts();
     return 0;
 }
