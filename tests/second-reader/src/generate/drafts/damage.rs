@@ -1,113 +1,12 @@
-//! Ways to make a draft malformed: each of 7006's conditions, where it can be seen alone.
+//! Makes a draft malformed in one of 7006's ways, at a place where it can be seen alone.
 
 use super::lend::settle;
 use super::limits::push;
-use crate::draft::{avps, Draft, Place};
+use super::pick::{after, last_member, members, pick, some, some_group};
+use super::ways::{Field, Flag, Spot, Way};
+use crate::draft::{Draft, Place};
 use crate::generate::prng::Prng;
 use crate::record::MOST_AVPS;
-
-/// A field of a place.
-#[derive(Clone, Copy, Debug, PartialEq, Eq, PartialOrd, Ord)]
-#[allow(missing_docs)]
-pub enum Field {
-    Depth,
-    Vendor,
-    Code,
-    M,
-    P,
-    Start,
-    Length,
-}
-
-/// Which of the unused places.
-#[derive(Clone, Copy, Debug, PartialEq, Eq, PartialOrd, Ord)]
-#[allow(missing_docs)]
-pub enum Spot {
-    First,
-    Between,
-    Last,
-}
-
-/// A flag of the command or of an AVP.
-#[derive(Clone, Copy, Debug, PartialEq, Eq, PartialOrd, Ord)]
-#[allow(missing_docs)]
-pub enum Flag {
-    R,
-    P,
-    E,
-    T,
-    AvpM,
-    AvpP,
-}
-
-/// A way to make a draft malformed.
-#[derive(Clone, Copy, Debug, PartialEq, Eq, PartialOrd, Ord)]
-pub enum Way {
-    /// Count 257, all places used.
-    Count257,
-    /// A far greater count, also one whose low octets are the honest count.
-    CountHuge,
-    /// One field of an unused place is not 0.
-    Unused(Field, Spot),
-    /// A part ends one octet behind the octets.
-    PartByOne,
-    /// A part ends far behind them, also beyond 32 bits.
-    PartByFar,
-    /// A part of length 0 starts one octet behind the end or farther.
-    EmptyPartBehind,
-    /// The first AVP has depth 0.
-    FirstDepth0,
-    /// The first AVP has depth 2 or more.
-    FirstDepth2,
-    /// A later AVP has depth 0.
-    Depth0,
-    /// Deeper by two after a read group.
-    JumpByTwo,
-    /// Deeper after an AVP that is no read group.
-    DeeperAfterPlain,
-    /// A member, deeper by one, of a read group at depth 4.
-    Depth5,
-    /// A group's length is too small.
-    GroupShort,
-    /// A group's length is too large.
-    GroupLong,
-    /// A group's length leaves out its last member's padding.
-    GroupWithoutPadding,
-    /// A group's length is that of members which have changed.
-    GroupStale,
-    /// A flag that is neither 0 nor 1.
-    Flag(Flag),
-}
-
-impl Way {
-    /// Every way.
-    pub fn all() -> Vec<Way> {
-        use Field::*;
-        let mut ways = vec![
-            Way::Count257,
-            Way::CountHuge,
-            Way::PartByOne,
-            Way::PartByFar,
-            Way::EmptyPartBehind,
-            Way::FirstDepth0,
-            Way::FirstDepth2,
-            Way::Depth0,
-            Way::JumpByTwo,
-            Way::DeeperAfterPlain,
-            Way::Depth5,
-            Way::GroupShort,
-            Way::GroupLong,
-            Way::GroupWithoutPadding,
-            Way::GroupStale,
-        ];
-        for field in [Depth, Vendor, Code, M, P, Start, Length] {
-            ways.extend([Spot::First, Spot::Between, Spot::Last].map(|at| Way::Unused(field, at)));
-        }
-        let flags = [Flag::R, Flag::P, Flag::E, Flag::T, Flag::AvpM, Flag::AvpP];
-        ways.extend(flags.map(Way::Flag));
-        ways
-    }
-}
 
 /// Makes the draft malformed in one way, where the draft has what that way needs.
 pub fn one(draft: &mut Draft, octets: &mut Vec<u8>, prng: &mut Prng) -> Option<Way> {
@@ -276,61 +175,5 @@ fn stale(draft: &mut Draft, prng: &mut Prng) -> Option<()> {
 fn settled(draft: &mut Draft, prng: &mut Prng) {
     if prng.one_in(2) {
         settle(draft.used_mut());
-    }
-}
-
-/// How many places stand below the one at `at`.
-fn members(draft: &Draft, at: usize) -> usize {
-    avps(&draft.used()[at..]).next().map_or(0, |(_, members)| members.len())
-}
-
-/// The last direct member of the group at `at`.
-fn last_member(draft: &Draft, at: usize) -> Option<&Place> {
-    let (_, members) = avps(&draft.used()[at..]).next()?;
-    avps(members).last().map(|(last, _)| last)
-}
-
-/// The position of a read group with a last member that is wanted.
-fn some_group(
-    draft: &Draft,
-    prng: &mut Prng,
-    wanted: impl Fn(&Place, &Place) -> bool,
-) -> Option<usize> {
-    let group = |&at: &usize| {
-        let group = &draft.places[at];
-        group.is_group() && last_member(draft, at).is_some_and(|last| wanted(group, last))
-    };
-    let groups: Vec<usize> = (0..draft.used().len()).filter(group).collect();
-    groups.get(prng.below(groups.len())).copied()
-}
-
-/// A position whose place, with the one before it, is wanted.
-fn after(draft: &Draft, prng: &mut Prng, wanted: impl Fn(&Place, &Place) -> bool) -> Option<usize> {
-    let used = draft.used();
-    let there: Vec<usize> =
-        (1..used.len()).filter(|&at| wanted(&used[at - 1], &used[at])).collect();
-    there.get(prng.below(there.len())).copied()
-}
-
-/// One of the used places that are wanted.
-fn pick<'a>(
-    draft: &'a mut Draft,
-    prng: &mut Prng,
-    wanted: impl Fn(&Place) -> bool,
-) -> Option<&'a mut Place> {
-    some(draft.used_mut(), prng, wanted)
-}
-
-fn some<'a>(
-    places: &'a mut [Place],
-    prng: &mut Prng,
-    wanted: impl Fn(&Place) -> bool,
-) -> Option<&'a mut Place> {
-    let mut there: Vec<&mut Place> = places.iter_mut().filter(|place| wanted(place)).collect();
-    let at = prng.below(there.len());
-    if there.is_empty() {
-        None
-    } else {
-        Some(there.swap_remove(at))
     }
 }

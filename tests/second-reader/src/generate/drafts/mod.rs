@@ -4,13 +4,15 @@
 mod damage;
 mod lend;
 mod limits;
+mod pick;
 mod room;
 mod source;
+mod ways;
 
-pub use damage::{Field, Flag, Spot, Way};
 pub use lend::{lend, settle};
 pub use room::{room, Room};
 pub use source::Origin;
+pub use ways::{Field, Flag, Spot, Way};
 
 use super::prng::Prng;
 use crate::draft::Draft;
