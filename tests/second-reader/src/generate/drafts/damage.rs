@@ -84,7 +84,7 @@ fn apply(way: Way, draft: &mut Draft, octets: &mut Vec<u8>, prng: &mut Prng) -> 
             settled(draft, prng);
         }
         Way::Depth5 => {
-            if draft.count as usize + 11 > MOST_AVPS {
+            if draft.count as usize + 12 > MOST_AVPS {
                 return None;
             }
             for depth in 1..=4 {
