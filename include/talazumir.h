@@ -48,8 +48,8 @@ extern "C" {
 #define TALAZUMIR_AVP_START 5
 #define TALAZUMIR_AVP_LENGTH 6
 
-/* What comes back for a command: the number (table below), the place, counted in octets from the command's start, and the
- * Vendor-Id and code of the AVP at fault. An accepted command has four times 0.
+/* What comes back for a command or a draft: the number (table below), the place, counted in octets from the command's start,
+ * and the Vendor-Id and code of the AVP at fault. An accepted one has four times 0.
  *
  *      0  accepted
  *   3001  command code                3007  application
@@ -59,11 +59,11 @@ extern "C" {
  *   5009  AVP too many times          5011  version
  *   5014  AVP length                  5015  command length
  *   7001  longer than 16,384 octets   7002  257th AVP
- *   7003  group at depth 4            7005  error answer
- *   7004  output without room         7006  draft not well formed
+ *   7003  group at depth 4            7004  output too short (writer)
+ *   7005  error answer                7006  malformed draft (writer)
  *
- * 7004 and 7006 are the writer's alone. The place is the first octet of the AVP at fault; for 5005 the end of the list that lacks the AVP, with the missing
- * vendor and code. Header refusals and 7002 have vendor and code 0. */
+ * The place is the first octet of the AVP at fault; for 5005 the end of the list that lacks the AVP, with the missing
+ * vendor and code. Header refusals and 7002 have vendor and code 0; 7004, 7006 and the writer's 7001 have place 0 too. */
 struct TalazumirVerdict {
     uint32_t number;
     uint32_t place;
@@ -71,16 +71,16 @@ struct TalazumirVerdict {
     uint32_t code;
 };
 
+/* What comes back for a draft: the verdict, and how many octets were written, 0 with a refusal. */
+struct TalazumirWritten {
+    struct TalazumirVerdict verdict;
+    uint32_t length;
+};
+
 /* A part of a slice. */
 struct TalazumirPart {
     size_t start;
     size_t length;
-};
-
-/* What writing gives: the verdict, and how many octets were written, 0 with a refusal. */
-struct TalazumirWritten {
-    struct TalazumirVerdict verdict;
-    uint32_t length;
 };
 
 /* The verdict of the command that is the whole slice. The log is written from its first number on with the AVPs that the
@@ -101,14 +101,22 @@ struct TalazumirPart talazumir_data(const uint32_t record[TALAZUMIR_RECORD_NUMBE
  * whatever numbers the record holds. */
 uint32_t talazumir_search(const uint32_t record[TALAZUMIR_RECORD_NUMBERS], uint32_t vendor, uint32_t code);
 
-/* Writes a draft, a record over octets, as a command into the output: V is set where the vendor is not 0, padding and
- * reserved bits are 0. In this order: 7006 where the count exceeds 256, a number of an unused position is not 0, a flag is
- * neither 0 nor 1, the data of an AVP that is no read group leaves the octets, the depths form no tree, or a read group's
- * length is not that of its members; 7001 where the command would exceed 16,384 octets; 7004 where the output has no room
- * for it; then the verdict of talazumir_verdict on the command. Place, vendor and code are 0 for the first three. Accepted,
- * the command stands at the output's start, and the octets behind it are as they were; refused, all are. */
+/* Writes the draft, which is the record over the lent octets, as a command to the start of the output. Any numbers may stand
+ * in the record; the first of these that applies is the answer:
+ *
+ *   7006  the count exceeds 256; a number of an unused position is not 0; the data of an AVP that is no group leave the
+ *         octets; the first depth is not 1, a depth is 0 or above 4, or one grows by more than 1 or not right after a group;
+ *         a group's length is not that of its members with padding; R, P, E, T, M or P of a position is neither 0 nor 1
+ *   7001  the command would be longer than 16,384 octets
+ *   7004  it would be longer than the room
+ *         the refusal that talazumir_read gives to the command's octets
+ *      0  the command stands in the output, as many octets as the length says
+ *
+ * Groups are the AVPs 260, 284 and 297 without vendor, and 628, 4204 and 4207 of vendor 10415; their starts are not looked
+ * at. V is set exactly where the vendor is not 0; padding and reserved bits are 0. With a refusal the whole output stays as
+ * it was, else the octets past the length. */
 struct TalazumirWritten talazumir_write(const uint32_t record[TALAZUMIR_RECORD_NUMBERS], const uint8_t *octets, size_t length,
-                                        uint8_t *output, size_t room);
+                                        uint8_t *out, size_t room);
 
 #ifdef __cplusplus
 }

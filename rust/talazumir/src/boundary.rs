@@ -1,6 +1,6 @@
 //! The exported functions of the proved archive. All `unsafe` of this crate stands here.
 
-use crate::{Verdict, LOG_NUMBERS, RECORD_NUMBERS};
+use crate::{Verdict, Written, LOG_NUMBERS, RECORD_NUMBERS};
 
 /// A part of a slice, as it crosses the boundary.
 #[repr(C)]
@@ -9,19 +9,12 @@ pub(crate) struct Part {
     pub(crate) length: usize,
 }
 
-/// What writing gives, as it crosses the boundary.
-#[repr(C)]
-pub(crate) struct Written {
-    pub(crate) verdict: Verdict,
-    pub(crate) length: u32,
-}
-
 extern "C" {
     fn talazumir_verdict(octets: *const u8, length: usize, log: *mut u32) -> Verdict;
     fn talazumir_read(octets: *const u8, length: usize, record: *mut u32) -> Verdict;
     fn talazumir_data(record: *const u32, position: usize, octets: *const u8, length: usize) -> Part;
     fn talazumir_search(record: *const u32, vendor: u32, code: u32) -> u32;
-    fn talazumir_write(record: *const u32, octets: *const u8, length: usize, output: *mut u8, room: usize) -> Written;
+    fn talazumir_write(record: *const u32, octets: *const u8, length: usize, out: *mut u8, room: usize) -> Written;
 }
 
 // Each call below is sound for the same reasons. The pointers come from references, so they are not null and live through
@@ -48,7 +41,7 @@ pub(crate) fn search(record: &[u32; RECORD_NUMBERS], vendor: u32, code: u32) -> 
     unsafe { talazumir_search(record.as_ptr(), vendor, code) }
 }
 
-pub(crate) fn write(record: &[u32; RECORD_NUMBERS], octets: &[u8], output: &mut [u8]) -> Written {
+pub(crate) fn write(record: &[u32; RECORD_NUMBERS], octets: &[u8], out: &mut [u8]) -> Written {
     // SAFETY: the record of 1,799 numbers and the slice are only read, the output is written; see above.
-    unsafe { talazumir_write(record.as_ptr(), octets.as_ptr(), octets.len(), output.as_mut_ptr(), output.len()) }
+    unsafe { talazumir_write(record.as_ptr(), octets.as_ptr(), octets.len(), out.as_mut_ptr(), out.len()) }
 }

@@ -9,6 +9,9 @@
 //! let refusal = talazumir::read(&octets).unwrap_err();
 //! assert_eq!((refusal.number, refusal.place, refusal.vendor, refusal.code), (5005, 20, 0, 263));
 //! ```
+//!
+//! A record over lent octets is a draft, which [`write`] turns into a command; `examples/rewrite.rs` reads a command, gives
+//! it another hop-by-hop identifier and writes it.
 
 #![deny(unsafe_code)]
 
@@ -26,11 +29,11 @@ pub const LOG_NUMBERS: usize = 7 * MOST_AVPS;
 /// The numbers of a record: seven for the command, then seven for each position.
 pub const RECORD_NUMBERS: usize = 7 + 7 * MOST_AVPS;
 
-/// What comes back for a command.
+/// What comes back for a command or a draft.
 #[repr(C)]
 #[derive(Clone, Copy, Debug, PartialEq, Eq, Hash)]
 pub struct Verdict {
-    /// 0 where the command is accepted, else the number of the refusal.
+    /// 0 where it is accepted, else the number of the refusal.
     pub number: u32,
     /// The first octet of the AVP at fault, or the end of the list that lacks an AVP (5005).
     pub place: u32,
@@ -41,7 +44,7 @@ pub struct Verdict {
 }
 
 impl Verdict {
-    /// Whether the command is accepted.
+    /// Whether the command or the draft is accepted.
     pub fn is_accepted(&self) -> bool {
         self.number == 0
     }
@@ -55,6 +58,23 @@ impl fmt::Display for Verdict {
 }
 
 impl std::error::Error for Verdict {}
+
+/// What comes back for a draft.
+#[repr(C)]
+#[derive(Clone, Copy, Debug, PartialEq, Eq, Hash)]
+pub struct Written {
+    /// The answer; 7006, 7001 and 7004 have place, vendor and code 0.
+    pub verdict: Verdict,
+    /// How many octets were written, 0 with a refusal.
+    pub length: u32,
+}
+
+impl Written {
+    /// Whether the draft is accepted.
+    pub fn is_accepted(&self) -> bool {
+        self.verdict.is_accepted()
+    }
+}
 
 /// An AVP of a record.
 #[derive(Clone, Copy, Debug, PartialEq, Eq, Hash)]
@@ -93,6 +113,11 @@ impl Record {
         &self.numbers
     }
 
+    /// The same numbers, to be changed. Any numbers are a record; [`write`] says which are a command.
+    pub fn numbers_mut(&mut self) -> &mut [u32; RECORD_NUMBERS] {
+        &mut self.numbers
+    }
+
     /// The R flag: a request.
     pub fn is_request(&self) -> bool {
         self.numbers[0] == 1
@@ -116,6 +141,11 @@ impl Record {
     /// The hop-by-hop identifier.
     pub fn hop_by_hop(&self) -> u32 {
         self.numbers[4]
+    }
+
+    /// Sets the hop-by-hop identifier.
+    pub fn set_hop_by_hop(&mut self, identifier: u32) {
+        self.numbers[4] = identifier;
     }
 
     /// The end-to-end identifier.
@@ -148,17 +178,6 @@ impl Record {
         &octets[part.start..part.start + part.length]
     }
 
-    /// Writes the draft that this record and `octets` are as a command to the start of `output`, and gives the command's
-    /// length; refused, `output` is as it was. A flag whose number is neither 0 nor 1 is refused with 7006.
-    pub fn write(&self, octets: &[u8], output: &mut [u8]) -> Result<usize, Verdict> {
-        let written = boundary::write(&self.numbers, octets, output);
-        if written.verdict.is_accepted() {
-            Ok(written.length as usize)
-        } else {
-            Err(written.verdict)
-        }
-    }
-
     /// The position of the first AVP at depth 1 with this vendor and code.
     pub fn search(&self, vendor: u32, code: u32) -> Option<usize> {
         let position = boundary::search(&self.numbers, vendor, code) as usize;
@@ -175,6 +194,17 @@ pub fn read(octets: &[u8]) -> Result<Record, Verdict> {
     } else {
         Err(verdict)
     }
+}
+
+/// Writes a draft, which is the record over the lent octets, as a command to the start of the output. The first that applies
+/// is the answer: 7006 for a malformed draft, 7001 for a command of more than 16,384 octets, 7004 for one that is longer than
+/// the output, then the refusal that [`read`] gives to the command. A refusal leaves the whole output as it was, an acceptance
+/// what lies past the length.
+///
+/// `include/talazumir.h` says when a draft is malformed. The record of an accepted command over the command's octets, given
+/// room, is accepted.
+pub fn write(record: &Record, octets: &[u8], out: &mut [u8]) -> Written {
+    boundary::write(&record.numbers, octets, out)
 }
 
 /// Judges commands one after the other with one log, and makes no record.

@@ -108,31 +108,3 @@ fn refusals_have_number_place_vendor_and_code() {
     }
     assert!(reader.verdict(&command(&s_avps())).is_accepted());
 }
-
-#[test]
-fn a_record_over_its_octets_is_written_as_the_command() {
-    let octets = command(&s_avps());
-    let record = read(&octets).expect("S is accepted");
-    let mut output = [0xEE; 200];
-    assert_eq!(record.write(&octets, &mut output), Ok(160));
-    assert_eq!(output[..160], octets);
-    assert!(output[160..].iter().all(|&octet| octet == 0xEE));
-    let mut short = [0xEE; 159];
-    assert_eq!(record.write(&octets, &mut short), Err(refusal(7004, 0, 0, 0)));
-    assert!(short.iter().all(|&octet| octet == 0xEE));
-}
-
-#[test]
-fn drafts_that_are_not_well_formed_are_7006() {
-    let octets = command(&s_avps());
-    let record = read(&octets).expect("S is accepted");
-    // a flag of 2, a count above 256, a depth of 0, a group's length, a data part that leaves the octets, an unused place
-    for (index, number) in [(0, 2), (6, 257), (7, 0), (20, 11), (82, 160), (7 + 7 * 255, 1)] {
-        let mut numbers = *record.numbers();
-        numbers[index] = number;
-        let mut output = [0xEE; 200];
-        let draft = Record::from_numbers(numbers);
-        assert_eq!(draft.write(&octets, &mut output), Err(refusal(7006, 0, 0, 0)), "{index}");
-        assert!(output.iter().all(|&octet| octet == 0xEE));
-    }
-}

@@ -1,25 +1,35 @@
-//! An independent reader of Diameter Nt commands (Background-Data-Transfer request and answer),
-//! written from document 01 and its readings alone.
+//! An independent reader and writer of Diameter Nt commands (Background-Data-Transfer request and
+//! answer), written from document 01 and its readings alone.
 //!
 //! One pass over the octets decides everything: the walk counts rows and gathers what the
 //! exchange rules need while it goes, so [`verdict`] allocates nothing.
 
 mod avp;
 mod book;
+pub mod calls;
 pub mod coverage;
 pub mod dictionary;
+pub mod draft;
 mod exchange;
 mod gaps;
 pub mod generate;
 mod header;
+pub mod meaning;
+pub mod properties;
 mod record;
 pub mod rows;
+mod shrink;
+pub mod trial;
 mod verdict;
 mod walk;
+pub mod write_coverage;
+mod writer;
 
 pub use book::{listing, pieces, Piece, LONGEST_BOOK};
+pub use draft::{Draft, Place};
 pub use record::{data, search, Avp, Record, MOST_AVPS};
 pub use verdict::{number, Verdict};
+pub use writer::{length, write, Written};
 
 use header::Header;
 use walk::{Forget, Keep};

@@ -1,36 +1,38 @@
 //! Generates commands and books from a seed: sound ones of every shape, and ones made wrong.
 
 mod books;
-mod draft;
+pub mod drafts;
+pub mod lists;
 mod mutate;
 mod prng;
 mod sound;
+mod tree;
 
 pub use books::{book, sweep};
-pub use draft::{Body, Draft, Node};
 pub use prng::Prng;
+pub use tree::{Body, Node, Tree};
 
 /// A sound command.
-pub fn sound(prng: &mut Prng) -> Draft {
+pub fn sound(prng: &mut Prng) -> Tree {
     sound::command(prng)
 }
 
 /// The octets of a command: sound, or made wrong in one or a few ways. The length field, where it
 /// is at least 20, is the number of octets.
 pub fn command(prng: &mut Prng) -> Vec<u8> {
-    let mut draft = sound::command(prng);
+    let mut tree = sound::command(prng);
     match prng.below(20) {
-        0..=6 => return draft.encode(),
-        7..=14 => mutate::tree(&mut draft, prng),
-        15..=16 => mutate::rules(&mut draft, prng),
+        0..=6 => return tree.encode(),
+        7..=14 => mutate::tree(&mut tree, prng),
+        15..=16 => mutate::rules(&mut tree, prng),
         17..=18 => {
             for _ in 0..2 + prng.below(3) {
-                mutate::tree(&mut draft, prng);
+                mutate::tree(&mut tree, prng);
             }
         }
-        _ => return mutate::fit(mutate::octets(draft.encode(), prng), prng),
+        _ => return mutate::fit(mutate::octets(tree.encode(), prng), prng),
     }
-    let octets = draft.encode();
+    let octets = tree.encode();
     if prng.one_in(12) {
         return mutate::fit(mutate::octets(octets, prng), prng);
     }

@@ -1,7 +1,7 @@
 //! Sound commands of every shape.
 
-use super::draft::{Body, Draft, Node};
 use super::prng::Prng;
+use super::tree::{Body, Node, Tree};
 use crate::dictionary::{Form, Kind};
 use crate::header::LONGEST_COMMAND;
 use crate::record::MOST_AVPS;
@@ -19,7 +19,7 @@ pub const GROUPS: [Kind; 6] = [
 ];
 
 /// A sound command, rarely one that a limit refuses.
-pub fn command(prng: &mut Prng) -> Draft {
+pub fn command(prng: &mut Prng) -> Tree {
     let mut flags = 0x40 | (prng.octet() & 0x0F);
     if prng.one_in(3) {
         flags |= 0x10;
@@ -30,20 +30,20 @@ pub fn command(prng: &mut Prng) -> Draft {
     } else {
         (&rows::BTA, answer(prng))
     };
-    let mut draft = Draft::of(flags, prng.word(), prng.word(), list);
-    extras(&mut draft.list, rows, 1, prng);
+    let mut tree = Tree::of(flags, prng.word(), prng.word(), list);
+    extras(&mut tree.list, rows, 1, prng);
     if !prng.one_in(4) {
-        prng.shuffle(&mut draft.list[1..]);
+        prng.shuffle(&mut tree.list[1..]);
     }
     if prng.one_in(60) {
         let goal = prng.pick(&[MOST_AVPS, MOST_AVPS, MOST_AVPS - 1, 200, 100]);
-        fill(&mut draft, goal, prng);
+        fill(&mut tree, goal, prng);
     }
     if prng.one_in(150) {
         let goal = prng.pick(&[LONGEST_COMMAND, LONGEST_COMMAND, LONGEST_COMMAND - 4, 15_000]);
-        stretch(&mut draft, goal, prng);
+        stretch(&mut tree, goal, prng);
     }
-    draft
+    tree
 }
 
 fn request(prng: &mut Prng) -> Vec<Node> {
@@ -293,38 +293,38 @@ fn extra(rows: &Rows, depth: usize, prng: &mut Prng) -> Option<Node> {
 }
 
 /// Adds short AVPs, anywhere that admits them, until there are `goal`.
-pub fn fill(draft: &mut Draft, goal: usize, prng: &mut Prng) {
-    while draft.count() < goal {
+pub fn fill(tree: &mut Tree, goal: usize, prng: &mut Prng) {
+    while tree.count() < goal {
         let mut node = if prng.one_in(2) { unknown(prng) } else { known(RouteRecord, 1, prng) };
         if let Body::Data(data) = &mut node.body {
             data.truncate(6);
         }
-        let groups: Vec<usize> = (0..draft.list.len())
+        let groups: Vec<usize> = (0..tree.list.len())
             .filter(|&i| {
                 [ProxyInfo, SupportedFeatures, TimeWindow, TransferPolicy]
                     .iter()
-                    .any(|&kind| draft.list[i].is(kind))
+                    .any(|&kind| tree.list[i].is(kind))
             })
             .collect();
         if groups.is_empty() || !prng.one_in(4) {
-            draft.list.insert(1 + prng.below(draft.list.len()), node);
-        } else if let Body::Members(members) = &mut draft.list[prng.pick(&groups)].body {
+            tree.list.insert(1 + prng.below(tree.list.len()), node);
+        } else if let Body::Members(members) = &mut tree.list[prng.pick(&groups)].body {
             members.push(node);
         }
     }
 }
 
 /// Adds one long AVP that makes the command `goal` octets long, if there is room.
-pub fn stretch(draft: &mut Draft, goal: usize, prng: &mut Prng) {
-    let length = draft.encode().len();
-    if length + 20 > goal || draft.count() >= MOST_AVPS {
+pub fn stretch(tree: &mut Tree, goal: usize, prng: &mut Prng) {
+    let length = tree.encode().len();
+    if length + 20 > goal || tree.count() >= MOST_AVPS {
         return;
     }
     let mut node = if prng.one_in(2) { unknown(prng) } else { known(RouteRecord, 1, prng) };
     let header = if node.vendor.is_some() { 12 } else { 8 };
     let room = goal - length - header - prng.below(4);
     node.body = Body::Data(prng.octets(room));
-    draft.list.insert(1 + prng.below(draft.list.len()), node);
+    tree.list.insert(1 + prng.below(tree.list.len()), node);
 }
 
 impl Node {

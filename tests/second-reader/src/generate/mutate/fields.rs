@@ -2,30 +2,30 @@
 
 use super::pick::{each, one, some_list, some_node};
 use crate::dictionary::{Form, Kind};
-use crate::generate::draft::{Body, Draft, Node};
 use crate::generate::prng::Prng;
 use crate::generate::sound;
+use crate::generate::tree::{Body, Node, Tree};
 use Kind::*;
 
-pub fn header(draft: &mut Draft, prng: &mut Prng) {
+pub fn header(tree: &mut Tree, prng: &mut Prng) {
     match prng.below(6) {
-        0 => draft.version = prng.pick(&[0, 2, 255]),
-        1 => draft.application ^= 1 << prng.below(32),
-        2 => draft.code = (draft.code ^ 1 << prng.below(24)) & 0xFF_FFFF,
-        3 => draft.flags ^= 0x40,
-        4 => draft.flags ^= 0x20,
-        _ => draft.flags = prng.octet(),
+        0 => tree.version = prng.pick(&[0, 2, 255]),
+        1 => tree.application ^= 1 << prng.below(32),
+        2 => tree.code = (tree.code ^ 1 << prng.below(24)) & 0xFF_FFFF,
+        3 => tree.flags ^= 0x40,
+        4 => tree.flags ^= 0x20,
+        _ => tree.flags = prng.octet(),
     }
     if prng.one_in(4) {
-        header(draft, prng);
+        header(tree, prng);
     }
 }
 
-pub fn rename(draft: &mut Draft, prng: &mut Prng) {
+pub fn rename(tree: &mut Tree, prng: &mut Prng) {
     let change = prng.below(5);
     let (vendor, code) = (prng.pick(&[1, 10_414, 10_416, u32::MAX]), prng.word());
     let kind = prng.pick(Kind::ALL);
-    let Some(node) = some_node(draft, prng) else {
+    let Some(node) = some_node(tree, prng) else {
         return;
     };
     match change {
@@ -43,10 +43,10 @@ pub fn rename(draft: &mut Draft, prng: &mut Prng) {
     }
 }
 
-pub fn flags(draft: &mut Draft, prng: &mut Prng) {
+pub fn flags(tree: &mut Tree, prng: &mut Prng) {
     let change = prng.below(4);
     let bit = 1 << prng.below(5);
-    let Some(node) = some_node(draft, prng) else {
+    let Some(node) = some_node(tree, prng) else {
         return;
     };
     match change {
@@ -56,16 +56,16 @@ pub fn flags(draft: &mut Draft, prng: &mut Prng) {
     }
 }
 
-pub fn length(draft: &mut Draft, prng: &mut Prng) {
+pub fn length(tree: &mut Tree, prng: &mut Prng) {
     let change = prng.below(6);
     let small = prng.below(16) as u32;
     let large = prng.pick(&[0xFF_FFFF, 0xFF_FFFD, 0x80_0000, 16_384, 65_536]);
-    let Some(node) = some_node(draft, prng) else {
+    let Some(node) = some_node(tree, prng) else {
         return;
     };
     let mut plain = node.clone();
     plain.length = None;
-    let honest = Draft::of(0, 0, 0, vec![plain]).encode().len() as u32 - 20;
+    let honest = Tree::of(0, 0, 0, vec![plain]).encode().len() as u32 - 20;
     node.length = Some(match change {
         0 => small,
         1 => large,
@@ -76,12 +76,12 @@ pub fn length(draft: &mut Draft, prng: &mut Prng) {
     });
 }
 
-pub fn width(draft: &mut Draft, prng: &mut Prng) {
+pub fn width(tree: &mut Tree, prng: &mut Prng) {
     let fixed = |node: &Node| {
         let kind = Kind::of(node.vendor.unwrap_or(0), node.code);
         kind.is_some_and(|kind| matches!(kind.form(), Form::Four | Form::Eight))
     };
-    one(draft, prng, fixed, |node, prng| {
+    one(tree, prng, fixed, |node, prng| {
         if let Body::Data(data) = &mut node.body {
             let length = prng.pick(&[0, 1, 2, 3, 5, 6, 7, 8, 4, 9, 12, 16]);
             data.resize(length, 0);
@@ -89,16 +89,16 @@ pub fn width(draft: &mut Draft, prng: &mut Prng) {
     });
 }
 
-pub fn value(draft: &mut Draft, prng: &mut Prng) {
+pub fn value(tree: &mut Tree, prng: &mut Prng) {
     let wanted = if prng.one_in(2) { AuthSessionState } else { TransferRequestType };
     if prng.one_in(3) {
         // One that stands in a group.
         let node = sound::known(wanted, 4, prng);
-        let list = some_list(&mut draft.list, prng);
+        let list = some_list(&mut tree.list, prng);
         list.insert(prng.below(list.len() + 1), node);
     }
     one(
-        draft,
+        tree,
         prng,
         |node| node.is(wanted),
         |node, prng| {
@@ -109,16 +109,16 @@ pub fn value(draft: &mut Draft, prng: &mut Prng) {
 }
 
 /// Makes windows wrong.
-pub fn window(draft: &mut Draft, prng: &mut Prng) {
+pub fn window(tree: &mut Tree, prng: &mut Prng) {
     if prng.one_in(4) {
         let node = sound::known(TimeWindow, 2, prng);
-        let list = some_list(&mut draft.list, prng);
+        let list = some_list(&mut tree.list, prng);
         list.insert(prng.below(list.len() + 1), node);
     }
     if prng.one_in(8) {
         // A window in a window, both anew.
         one(
-            draft,
+            tree,
             prng,
             |node| node.is(TimeWindow),
             |node, prng| {
@@ -128,9 +128,9 @@ pub fn window(draft: &mut Draft, prng: &mut Prng) {
                 }
             },
         );
-        each(&mut draft.list, &mut |node| set_times(node, prng));
+        each(&mut tree.list, &mut |node| set_times(node, prng));
     } else {
-        one(draft, prng, |node| node.is(TimeWindow), set_times);
+        one(tree, prng, |node| node.is(TimeWindow), set_times);
     }
 }
 

@@ -2,20 +2,20 @@
 
 use super::pick::{one, some_list};
 use crate::dictionary::Kind;
-use crate::generate::draft::{Body, Draft, Node};
 use crate::generate::prng::Prng;
 use crate::generate::sound;
+use crate::generate::tree::{Body, Node, Tree};
 use Kind::*;
 
-pub fn drop_any(draft: &mut Draft, prng: &mut Prng) {
-    let list = some_list(&mut draft.list, prng);
+pub fn drop_any(tree: &mut Tree, prng: &mut Prng) {
+    let list = some_list(&mut tree.list, prng);
     if !list.is_empty() {
         list.remove(prng.below(list.len()));
     }
 }
 
 /// Drops AVPs of the command's list that an exchange rule or, less often, a row may need.
-pub fn drop_ruled(draft: &mut Draft, prng: &mut Prng) {
+pub fn drop_ruled(tree: &mut Tree, prng: &mut Prng) {
     let ruled = [
         ApplicationServiceProviderIdentity,
         CcOutputOctets,
@@ -39,14 +39,14 @@ pub fn drop_ruled(draft: &mut Draft, prng: &mut Prng) {
     let there: Vec<Kind> = ruled[..exchange]
         .iter()
         .copied()
-        .filter(|&kind| draft.list.iter().any(|node| node.is(kind)))
+        .filter(|&kind| tree.list.iter().any(|node| node.is(kind)))
         .collect();
     if there.is_empty() {
         return;
     }
     for _ in 0..prng.pick(&[1, 1, 1, 2, 3, 5]) {
         let gone = prng.pick(&there);
-        draft.list.retain(|node| {
+        tree.list.retain(|node| {
             let volume =
                 gone == CcOutputOctets && (node.is(CcInputOctets) || node.is(CcTotalOctets));
             !node.is(gone) && !volume
@@ -55,14 +55,14 @@ pub fn drop_ruled(draft: &mut Draft, prng: &mut Prng) {
 }
 
 /// Drops about half of a group's members.
-pub fn thin(draft: &mut Draft, prng: &mut Prng) {
+pub fn thin(tree: &mut Tree, prng: &mut Prng) {
     let kind = prng.pick(&sound::GROUPS);
     if prng.one_in(2) {
         let node = sound::known(kind, 3, prng);
-        draft.list.push(node);
+        tree.list.push(node);
     }
     one(
-        draft,
+        tree,
         prng,
         |node| node.is(kind),
         |node, prng| {
@@ -73,34 +73,34 @@ pub fn thin(draft: &mut Draft, prng: &mut Prng) {
     );
 }
 
-pub fn double(draft: &mut Draft, prng: &mut Prng) {
-    let list = some_list(&mut draft.list, prng);
+pub fn double(tree: &mut Tree, prng: &mut Prng) {
+    let list = some_list(&mut tree.list, prng);
     if !list.is_empty() {
         let copy = list[prng.below(list.len())].clone();
         list.insert(prng.below(list.len() + 1), copy);
     }
 }
 
-pub fn swap(draft: &mut Draft, prng: &mut Prng) {
-    let list = some_list(&mut draft.list, prng);
+pub fn swap(tree: &mut Tree, prng: &mut Prng) {
+    let list = some_list(&mut tree.list, prng);
     if !list.is_empty() {
         let (a, b) = (prng.below(list.len()), prng.below(list.len()));
         list.swap(a, b);
     }
 }
 
-pub fn move_elsewhere(draft: &mut Draft, prng: &mut Prng) {
-    let list = some_list(&mut draft.list, prng);
+pub fn move_elsewhere(tree: &mut Tree, prng: &mut Prng) {
+    let list = some_list(&mut tree.list, prng);
     if list.is_empty() {
         return;
     }
     let node = list.remove(prng.below(list.len()));
-    let list = some_list(&mut draft.list, prng);
+    let list = some_list(&mut tree.list, prng);
     list.insert(prng.below(list.len() + 1), node);
 }
 
 /// Puts a sound AVP, known or not, where it may not belong.
-pub fn intrude(draft: &mut Draft, prng: &mut Prng) {
+pub fn intrude(tree: &mut Tree, prng: &mut Prng) {
     let node = if prng.one_in(4) {
         let mut node = sound::unknown(prng);
         if prng.one_in(2) {
@@ -113,53 +113,53 @@ pub fn intrude(draft: &mut Draft, prng: &mut Prng) {
     if prng.one_in(3) {
         let closed =
             |node: &Node| node.is(VendorSpecificApplicationId) || node.is(ExperimentalResult);
-        one(draft, prng, closed, |group, prng| {
+        one(tree, prng, closed, |group, prng| {
             if let Body::Members(members) = &mut group.body {
                 members.insert(prng.below(members.len() + 1), node.clone());
             }
         });
     } else {
-        let list = some_list(&mut draft.list, prng);
+        let list = some_list(&mut tree.list, prng);
         list.insert(prng.below(list.len() + 1), node);
     }
 }
 
-pub fn session(draft: &mut Draft, prng: &mut Prng) {
-    if draft.list.is_empty() {
+pub fn session(tree: &mut Tree, prng: &mut Prng) {
+    if tree.list.is_empty() {
         return;
     }
-    let first = draft.list[0].clone();
+    let first = tree.list[0].clone();
     if prng.one_in(2) {
-        draft.list.remove(0);
+        tree.list.remove(0);
     }
-    let list = if prng.one_in(4) { some_list(&mut draft.list, prng) } else { &mut draft.list };
+    let list = if prng.one_in(4) { some_list(&mut tree.list, prng) } else { &mut tree.list };
     list.insert(prng.below(list.len() + 1), first);
 }
 
 /// Both results in an answer.
-pub fn outcome(draft: &mut Draft, prng: &mut Prng) {
+pub fn outcome(tree: &mut Tree, prng: &mut Prng) {
     for kind in [ResultCode, ExperimentalResult] {
-        if !draft.list.iter().any(|node| node.is(kind)) {
+        if !tree.list.iter().any(|node| node.is(kind)) {
             let node = sound::known(kind, 1, prng);
-            draft.list.insert(prng.below(draft.list.len() + 1), node);
+            tree.list.insert(prng.below(tree.list.len() + 1), node);
         }
     }
 }
 
-pub fn empty_group(draft: &mut Draft, prng: &mut Prng) {
+pub fn empty_group(tree: &mut Tree, prng: &mut Prng) {
     let group = |node: &Node| matches!(node.body, Body::Members(_));
-    one(draft, prng, group, |node, _| node.body = Body::Members(Vec::new()));
+    one(tree, prng, group, |node, _| node.body = Body::Members(Vec::new()));
 }
 
 /// Adds policies or takes their members.
-pub fn policies(draft: &mut Draft, prng: &mut Prng) {
+pub fn policies(tree: &mut Tree, prng: &mut Prng) {
     if prng.one_in(2) {
         let node = sound::known(TransferPolicy, 1, prng);
-        draft.list.insert(prng.below(draft.list.len() + 1), node);
+        tree.list.insert(prng.below(tree.list.len() + 1), node);
     }
     let gone = prng.pick(&[TimeWindow, RatingGroup, TransferPolicyId]);
     one(
-        draft,
+        tree,
         prng,
         |node| node.is(TransferPolicy),
         |node, _| {

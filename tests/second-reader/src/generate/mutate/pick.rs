@@ -1,7 +1,7 @@
 //! Picking a list or an AVP of the tree.
 
-use crate::generate::draft::{Body, Draft, Node};
 use crate::generate::prng::Prng;
+use crate::generate::tree::{Body, Node, Tree};
 
 /// A list of the command: its own or, as likely, one below.
 pub fn some_list<'a>(list: &'a mut Vec<Node>, prng: &mut Prng) -> &'a mut Vec<Node> {
@@ -17,8 +17,8 @@ pub fn some_list<'a>(list: &'a mut Vec<Node>, prng: &mut Prng) -> &'a mut Vec<No
     }
 }
 
-pub fn some_node<'a>(draft: &'a mut Draft, prng: &mut Prng) -> Option<&'a mut Node> {
-    let list = some_list(&mut draft.list, prng);
+pub fn some_node<'a>(tree: &'a mut Tree, prng: &mut Prng) -> Option<&'a mut Node> {
+    let list = some_list(&mut tree.list, prng);
     let at = prng.below(list.len());
     list.get_mut(at)
 }
@@ -35,16 +35,16 @@ pub fn each(list: &mut [Node], change: &mut impl FnMut(&mut Node)) {
 
 /// Does `change` to one of the AVPs that `wanted` picks.
 pub fn one(
-    draft: &mut Draft,
+    tree: &mut Tree,
     prng: &mut Prng,
     wanted: impl Fn(&Node) -> bool,
     change: impl Fn(&mut Node, &mut Prng),
 ) {
     let mut number = 0;
-    each(&mut draft.list, &mut |node| number += usize::from(wanted(node)));
+    each(&mut tree.list, &mut |node| number += usize::from(wanted(node)));
     let chosen = prng.below(number);
     let mut met = 0;
-    each(&mut draft.list, &mut |node| {
+    each(&mut tree.list, &mut |node| {
         if wanted(node) {
             if met == chosen {
                 change(node, prng);

@@ -34,7 +34,7 @@ pub struct Node {
 
 /// One command.
 #[derive(Clone, Debug)]
-pub struct Draft {
+pub struct Tree {
     /// Version octet.
     pub version: u8,
     /// Flags octet.
@@ -86,10 +86,10 @@ impl Node {
     }
 }
 
-impl Draft {
+impl Tree {
     /// A command with a sound header and this list.
-    pub fn of(flags: u8, hop_by_hop: u32, end_to_end: u32, list: Vec<Node>) -> Draft {
-        Draft {
+    pub fn of(flags: u8, hop_by_hop: u32, end_to_end: u32, list: Vec<Node>) -> Tree {
+        Tree {
             version: 1,
             flags,
             code: COMMAND_CODE,

@@ -1,0 +1,34 @@
+//! Reads a command in hex from the command line, gives it the hop-by-hop identifier that stands before it, writes it, and
+//! prints the written command in hex; for a refused command its verdict.
+//!
+//! `cargo run --example rewrite -- 7 010000A0C080007301000084 ..`
+
+mod hex;
+
+use std::process::ExitCode;
+
+fn main() -> ExitCode {
+    let words: Vec<String> = std::env::args().skip(1).collect();
+    let arguments = words.split_first().and_then(|(first, rest)| Some((first.parse().ok()?, hex::octets_of(rest)?)));
+    let Some((identifier, octets)) = arguments else {
+        eprintln!("usage: rewrite IDENTIFIER HEX.. (a hop-by-hop identifier, then a command, two hex digits for each octet)");
+        return ExitCode::FAILURE;
+    };
+    let mut record = match talazumir::read(&octets) {
+        Ok(record) => record,
+        Err(refusal) => {
+            println!("{refusal}");
+            return ExitCode::SUCCESS;
+        }
+    };
+    record.set_hop_by_hop(identifier);
+    // A command is written as long as it was read.
+    let mut out = vec![0; octets.len()];
+    let written = talazumir::write(&record, &octets, &mut out);
+    if !written.is_accepted() {
+        println!("{}", written.verdict);
+        return ExitCode::FAILURE;
+    }
+    println!("{}", hex::text_of(&out[..written.length as usize]));
+    ExitCode::SUCCESS
+}
