@@ -66,8 +66,8 @@ fn avp_by(at: usize, depth: u32, header: u32, vendor: u32, code: u32, flags: u8,
     }
 }
 
-// Check 2 of the AVP at a place, in a list at this depth. Each answer is made here, since one that another function makes
-// is copied.
+// Check 2 of the AVP at a place, in a list at this depth. The two sizes of a header are two paths up to their answers:
+// joined in a function below, they cost the compiled walk what the one reading gains.
 pub(crate) fn framed(s: &[u8], at: usize, end: usize, depth: u32) -> Frame
     requires { ⌜ InList (now s) at end ⌝ }
     ensures { λ r. ⌜ r ≡ frameOf (framing (now (s .entry)) at end) (avpAt (now (s .entry)) at depth) ⌝ }
