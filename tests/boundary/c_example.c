@@ -1,5 +1,5 @@
-/* Reads document 01's commands S, S without its last AVP, and H through the boundary, writes S and drafts that differ from
- * it, and prints what comes back. */
+/* Reads document 01's commands S, S without its last AVP, and H through the boundary, writes drafts made from S, and prints
+ * what comes back. */
 #include <inttypes.h>
 #include <stdio.h>
 #include <string.h>
@@ -59,49 +59,29 @@ static size_t used(const uint32_t *numbers, size_t count) {
     return n;
 }
 
-static void print_written(const char *name, struct TalazumirWritten w) {
-    print_verdict(name, w.verdict);
-    printf("  %" PRIu32 " octets\n", w.length);
-}
+static uint8_t output[200];
 
-/* How many octets are not those of S. */
-static size_t unlike_s(const uint8_t *octets) {
-    size_t n = 0;
-    for (size_t i = 0; i < sizeof S; i++) {
-        n += octets[i] != S[i];
+/* Writes the record over S into the first `room` octets of an output that holds 0xEE throughout. */
+static void print_written(const char *name, size_t room) {
+    memset(output, 0xEE, sizeof output);
+    struct TalazumirWritten w = talazumir_write(record, S, sizeof S, output, room);
+    size_t same = 0;
+    while (same < sizeof S && output[same] == S[same]) {
+        same++;
     }
-    return n;
-}
-
-/* How many octets are not the old ones. */
-static size_t altered(const uint8_t *octets, size_t count) {
-    size_t n = 0;
-    for (size_t i = 0; i < count; i++) {
-        n += octets[i] != 0xA5;
+    size_t kept = sizeof output;
+    while (kept > 0 && output[kept - 1] == 0xEE) {
+        kept--;
     }
-    return n;
+    printf("%s into %zu: %" PRIu32 " %" PRIu32 " %" PRIu32 " %" PRIu32 ", length %" PRIu32 "; as S up to %zu, altered up to %zu\n",
+           name, room, w.verdict.number, w.verdict.place, w.verdict.vendor, w.verdict.code, w.length, same, kept);
 }
 
-static void write_drafts(void) {
-    uint8_t out[170];
-    memset(out, 0xA5, sizeof out);
+/* The record of S with one number altered. */
+static void print_altered(const char *name, size_t index, uint32_t number) {
     talazumir_read(S, sizeof S, record);
-    print_written("S written", talazumir_write(record, S, sizeof S, out, sizeof out));
-    printf("octets unlike S: %zu\n", unlike_s(out));
-    printf("octets altered past the length: %zu\n", altered(out + sizeof S, sizeof out - sizeof S));
-    record[TALAZUMIR_HOP_BY_HOP] = 7;
-    print_written("S with hop-by-hop 7", talazumir_write(record, S, sizeof S, out, sizeof S));
-    printf("octets unlike S: %zu\n", unlike_s(out));
-
-    memset(out, 0xA5, sizeof out);
-    print_written("S in 159 octets", talazumir_write(record, S, sizeof S, out, sizeof S - 1));
-    print_written("S over 159 octets", talazumir_write(record, S, sizeof S - 1, out, sizeof out));
-    record[TALAZUMIR_T] = 2;
-    print_written("S with T of 2", talazumir_write(record, S, sizeof S, out, sizeof out));
-    record[TALAZUMIR_T] = 0;
-    record[TALAZUMIR_POSITION(10) + TALAZUMIR_AVP_M] = 0;
-    print_written("S with 4208 without M", talazumir_write(record, S, sizeof S, out, sizeof out));
-    printf("octets altered by refusals: %zu\n", altered(out, sizeof out));
+    record[index] = number;
+    print_written(name, sizeof output);
 }
 
 int main(void) {
@@ -145,6 +125,24 @@ int main(void) {
     print_verdict("H", talazumir_verdict(h, sizeof h, log_numbers));
     print_verdict("empty slice", talazumir_verdict(S, 0, log_numbers));
 
-    write_drafts();
+    talazumir_read(S, sizeof S, record);
+    print_written("S", sizeof output);
+    print_written("S", 160);
+    print_written("S", 159);
+    print_altered("T set", TALAZUMIR_T, 1);
+    print_altered("T of 2", TALAZUMIR_T, 2);
+    print_altered("P of 2 in an unused position", TALAZUMIR_POSITION(255) + TALAZUMIR_AVP_P, 2);
+    print_altered("a count of 257", TALAZUMIR_COUNT, 257);
+    print_altered("a count of 10", TALAZUMIR_COUNT, 10);
+    print_altered("4208 at depth 2", TALAZUMIR_POSITION(10) + TALAZUMIR_AVP_DEPTH, 2);
+    print_altered("260 with a length of 16", TALAZUMIR_POSITION(1) + TALAZUMIR_AVP_LENGTH, 16);
+    print_altered("260 with another start", TALAZUMIR_POSITION(1) + TALAZUMIR_AVP_START, 4294967295);
+    print_altered("4208 one octet further", TALAZUMIR_POSITION(10) + TALAZUMIR_AVP_START, 157);
+    print_altered("263 with a length of 161", TALAZUMIR_POSITION(0) + TALAZUMIR_AVP_LENGTH, 161);
+    print_altered("E set", TALAZUMIR_E, 1);
+    talazumir_read(S, sizeof S, record);
+    memset(record + TALAZUMIR_POSITION(10), 0, 7 * sizeof record[0]);
+    record[TALAZUMIR_COUNT] = 10;
+    print_written("S without 4208", sizeof output);
     return 0;
 }
