@@ -5,7 +5,7 @@ use Prim.Native.Nat.{ℕ, zero, suc, _+_, _*_, _≤_, _<_}
 use native.Mathlib.Nat.{add-zero}
 use native.Mathlib.Numerals.{add-one}
 use native.Mathlib.Omega.{arith}
-use lib.ListN.{length, getD, set, drop, replicate, drop-of-length-le}
+use lib.ListN.{length, getD, set, drop, replicate, drop-of-length-le, List·getD-eq-default}
 use lib.Seq.{sets, sets-eq, drop-cons, drop-drop, getD-drop}
 use Rattle.rules.specs.declared.Avp.{Avp}
 use Rattle.rules.specs.declared.Record.{Record}
@@ -18,6 +18,15 @@ use Rattle.rules.specs.Record.{emptyRecord, recordBy, reading}
 use Rattle.octets.proofs.Puts.{sets-append}
 use Rattle.log.proofs.Log.{bit-back}
 use Rattle.numbers.specs.Numbers.{headNumbers, avpNumbers, avpsNumbers, numbersOf, avpFrom, avpAt, avpsFrom, countOf, recordOf}
+
+-- ---- no AVP from position 256 on
+
+pub avpAt-out : (numbers : List ℕ) (i : ℕ) → length numbers ≡ 1799 → 256 ≤ i → avpAt numbers i ≡ blank
+unfolding avpAt
+avpAt-out numbers i e h =
+    let none : (k : ℕ) → getD numbers (i * 7 + 7 + k) 0 ≡ 0 = λ k. List·getD-eq-default numbers 0 (omega arith) in
+    let first : getD numbers (i * 7 + 7) 0 ≡ 0 = List·getD-eq-default numbers 0 (omega arith) in
+    rw (first, none 1, none 2, none 3, none 4, none 5, none 6)
 
 -- ---- written whole
 

@@ -84,11 +84,14 @@ pub fn used(numbers: &[u32; 1799]) -> usize
     log::used(count(numbers))
 }
 
-// The AVP at a position.
+// The AVP at a position, the blank one from 256 on.
 pub fn get(numbers: &[u32; 1799], position: usize) -> Avp
-    requires { ⌜ position < 256 ⌝ }
     ensures { λ r. ⌜ r ≡ avpAt (now (numbers .entry)) position ⌝ }
 {
+    size(numbers);
+    if limits::MOST_AVPS <= position {
+        return avp::blank();
+    }
     let at = position * 7 + 7;
     Avp {
         depth: numbers[at],

@@ -24,7 +24,7 @@ loop-holds c =
     (omega arith, (c .used .ensures, position-all (a .numbers .now) (a .vendor) (a .code)))
 
 get-requires : tie.Need-get-requires Inv-loop μ-loop
-get-requires c κs = omega arith
+get-requires c κs = search needs
 
 is-found-requires : tie.Need-is-found-requires Inv-loop μ-loop
 is-found-requires c κs = search needs

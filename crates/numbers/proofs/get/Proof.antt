@@ -1,9 +1,21 @@
 -- `numbers::get` meets its contract.
 use borrow.Author.Needs.{needs}
-use mathlib.Core.Path.{refl}
+use mathlib.Core.Path.{refl, sym, _∙_}
 use Rattle.numbers.specs.Numbers.{avpAt}
+use Rattle.numbers.proofs.Numbers.{avpAt-out}
 use Rattle.numbers.proofs.get.Statement.{statement}
 use Rattle.numbers.proofs.get.Tie as tie
+
+size-requires : tie.Need-size-requires
+size-requires c κs = search needs
+
+blank-requires : tie.Need-blank-requires
+blank-requires c κs = search needs
+
+returns : tie.Need-returns
+returns c =
+    let s = c .before .before in
+    c .blank .ensures ∙ sym (avpAt-out (s .before .args .numbers .now) (s .before .args .position) (s .size .ensures .1) (c .before .if1 .taken))
 
 mul-at : tie.Need-mul-at
 mul-at c = search needs
@@ -14,35 +26,35 @@ add-at c = search needs
 mul-t4 : tie.Need-mul-t4
 mul-t4 c = search needs
 
-element-copy-out-t7 : tie.Need-element-copy-out-t7
-element-copy-out-t7 c = search needs
+element-copy-out-t8 : tie.Need-element-copy-out-t8
+element-copy-out-t8 c = search needs
 
-add-t8 : tie.Need-add-t8
-add-t8 c = search needs
+add-t9 : tie.Need-add-t9
+add-t9 c = search needs
 
-mul-t9 : tie.Need-mul-t9
-mul-t9 c = search needs
+mul-t10 : tie.Need-mul-t10
+mul-t10 c = search needs
 
-element-copy-out-t12 : tie.Need-element-copy-out-t12
-element-copy-out-t12 c = search needs
+element-copy-out-t13 : tie.Need-element-copy-out-t13
+element-copy-out-t13 c = search needs
 
-add-t13 : tie.Need-add-t13
-add-t13 c = search needs
+add-t14 : tie.Need-add-t14
+add-t14 c = search needs
 
-mul-t14 : tie.Need-mul-t14
-mul-t14 c = search needs
+mul-t15 : tie.Need-mul-t15
+mul-t15 c = search needs
 
-element-copy-out-t17 : tie.Need-element-copy-out-t17
-element-copy-out-t17 c = search needs
+element-copy-out-t18 : tie.Need-element-copy-out-t18
+element-copy-out-t18 c = search needs
 
-add-t18 : tie.Need-add-t18
-add-t18 c = search needs
+add-t19 : tie.Need-add-t19
+add-t19 c = search needs
 
-mul-t19 : tie.Need-mul-t19
-mul-t19 c = search needs
+mul-t20 : tie.Need-mul-t20
+mul-t20 c = search needs
 
-element-copy-out-t22 : tie.Need-element-copy-out-t22
-element-copy-out-t22 c = search needs
+element-copy-out-t23 : tie.Need-element-copy-out-t23
+element-copy-out-t23 c = search needs
 
 add-t24 : tie.Need-add-t24
 add-t24 c = search needs
@@ -71,27 +83,30 @@ mul-t36 c = search needs
 element-copy-out-t39 : tie.Need-element-copy-out-t39
 element-copy-out-t39 c = search needs
 
-returns : tie.Need-returns
+returns-2 : tie.Need-returns-2
 unfolding avpAt
-returns c = refl
+returns-2 c = refl
 
 pub get-spec : {M : Type 1} → statement M
 get-spec =
     tie.close
     (tie.spec
+    size-requires
+    blank-requires
+    returns
     mul-at
     add-at
     mul-t4
-    element-copy-out-t7
-    add-t8
-    mul-t9
-    element-copy-out-t12
-    add-t13
-    mul-t14
-    element-copy-out-t17
-    add-t18
-    mul-t19
-    element-copy-out-t22
+    element-copy-out-t8
+    add-t9
+    mul-t10
+    element-copy-out-t13
+    add-t14
+    mul-t15
+    element-copy-out-t18
+    add-t19
+    mul-t20
+    element-copy-out-t23
     add-t24
     mul-t25
     element-copy-out-t28
@@ -101,4 +116,4 @@ get-spec =
     add-t35
     mul-t36
     element-copy-out-t39
-    returns)
+    returns-2)

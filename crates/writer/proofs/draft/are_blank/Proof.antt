@@ -22,7 +22,7 @@ loop-holds : tie.Need-loop-holds Inv-loop μ-loop
 loop-holds c = refl
 
 get-requires : tie.Need-get-requires Inv-loop μ-loop
-get-requires c κs = omega arith
+get-requires c κs = search needs
 
 is-blank-requires : tie.Need-is-blank-requires Inv-loop μ-loop
 is-blank-requires c κs = search needs

@@ -28,7 +28,7 @@ loop-holds : tie.Need-loop-holds Inv-loop μ-loop
 loop-holds c = (c .used .ensures, refl)
 
 get-requires : tie.Need-get-requires Inv-loop μ-loop
-get-requires c κs = omega arith
+get-requires c κs = search needs
 
 is-placed-requires : tie.Need-is-placed-requires Inv-loop μ-loop
 is-placed-requires c κs = search needs

@@ -32,7 +32,7 @@ loop-holds : tie.Need-loop-holds Inv-loop μ-loop
 loop-holds c = (c .used .ensures, λ s. refl)
 
 get-requires : tie.Need-get-requires Inv-loop μ-loop
-get-requires c κs = omega arith
+get-requires c κs = search needs
 
 is-in-tree-requires : tie.Need-is-in-tree-requires Inv-loop μ-loop
 is-in-tree-requires c κs = search needs

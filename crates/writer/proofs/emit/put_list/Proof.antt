@@ -26,7 +26,7 @@ loop-holds c =
     (c .used .ensures, (search needs, left-all (a .numbers .now) (a .s .now) (a .out .now) (start .pre)))
 
 get-requires : tie.Need-get-requires Inv-loop μ-loop
-get-requires c κs = omega arith
+get-requires c κs = search needs
 
 put-avp-requires : tie.Need-put-avp-requires Inv-loop μ-loop
 put-avp-requires c κs =

@@ -31,7 +31,7 @@ loop-holds : tie.Need-loop-holds Inv-loop μ-loop
 loop-holds c = (c .used .ensures, (omega arith, (omega arith, λ s. omega arith)))
 
 get-requires : tie.Need-get-requires Inv-loop μ-loop
-get-requires c κs = omega arith
+get-requires c κs = search needs
 
 returns : tie.Need-returns Inv-loop μ-loop
 returns c =
