@@ -4,52 +4,41 @@
 //! `bench [SEED]`. The commands are of three sizes, accepted and refused apart. Rounds are interleaved, so that what else the
 //! computer does meets both; a ratio is of the two times of one round, and its median and range over the rounds are printed.
 
-use second_reader::generate::{command, Prng};
 use std::hint::black_box;
-use std::ops::RangeInclusive;
 use std::time::{Duration, Instant};
 
-/// A mix of commands: its name, and the lengths of its commands.
-const MIXES: [(&str, RangeInclusive<usize>); 3] =
-    [("about 160 octets", 120..=240), ("about 1,000 octets", 800..=1200), ("near 16,384 octets", 12000..=16384)];
-
-/// Commands of a mix, and octets that a round goes through at least.
-const COMMANDS: usize = 64;
-const OCTETS: usize = 4_000_000;
+/// Octets that a round goes through at least.
+const OCTETS: usize = 20_000_000;
 const ROUNDS: usize = 21;
 
 fn main() {
-    let seed = std::env::args().nth(1).and_then(|word| word.parse().ok()).unwrap_or(20261115);
-    let mut prng = Prng::new(seed);
+    let seed = std::env::args().nth(1).and_then(|word| word.parse().ok()).unwrap_or(bench::SEED);
     println!("seed {seed}, {ROUNDS} rounds; ratio of times, proved reader to second reader: median (least to greatest)");
-    for (name, lengths) in MIXES {
-        for accepted in [true, false] {
-            let commands = mix(&mut prng, &lengths, accepted);
-            let verdicts = rounds(&commands, ours(), |octets| {
-                black_box(second_reader::verdict(octets));
-            });
-            let mut record = second_reader::Record::default();
-            let into = rounds(&commands, ours(), |octets| {
-                black_box(second_reader::read_into(octets, &mut record));
-            });
-            let fresh = rounds(&commands, ours(), |octets| {
+    for (name, commands) in bench::mixes(seed) {
+        let verdicts = rounds(&commands, ours(), |octets| {
+            black_box(second_reader::verdict(octets));
+        });
+        let mut record = second_reader::Record::default();
+        let into = rounds(&commands, ours(), |octets| {
+            black_box(second_reader::read_into(octets, &mut record));
+        });
+        let fresh = rounds(&commands, ours(), |octets| {
+            black_box(second_reader::read(octets));
+        });
+        let read = rounds(
+            &commands,
+            |octets| {
+                let _ = black_box(talazumir::read(octets));
+            },
+            |octets| {
                 black_box(second_reader::read(octets));
-            });
-            let read = rounds(
-                &commands,
-                |octets| {
-                    let _ = black_box(talazumir::read(octets));
-                },
-                |octets| {
-                    black_box(second_reader::read(octets));
-                },
-            );
-            println!("{name}, {}:", if accepted { "accepted" } else { "refused" });
-            println!("  verdict against verdict alone          {}", summary(verdicts));
-            println!("  verdict against a record, room reused  {}", summary(into));
-            println!("  verdict against a record, new vector   {}", summary(fresh));
-            println!("  record against a record, new vector    {}", summary(read));
-        }
+            },
+        );
+        println!("{name}:");
+        println!("  verdict against verdict alone          {}", summary(verdicts));
+        println!("  verdict against a record, room reused  {}", summary(into));
+        println!("  verdict against a record, new vector   {}", summary(fresh));
+        println!("  record against a record, new vector    {}", summary(read));
     }
 }
 
@@ -59,20 +48,6 @@ fn ours() -> impl FnMut(&[u8]) {
     move |octets| {
         black_box(reader.verdict(octets));
     }
-}
-
-/// Generated commands of these lengths, all accepted or all refused behind the header.
-fn mix(prng: &mut Prng, lengths: &RangeInclusive<usize>, accepted: bool) -> Vec<Vec<u8>> {
-    let mut commands = Vec::new();
-    while commands.len() < COMMANDS {
-        let octets = command(prng);
-        let verdict = second_reader::verdict(&octets);
-        let fits = if accepted { verdict.number == 0 } else { verdict.place >= 20 };
-        if lengths.contains(&octets.len()) && fits {
-            commands.push(octets);
-        }
-    }
-    commands
 }
 
 /// The ratio of each round.
