@@ -1,9 +1,14 @@
 -- `writer::write_numbers` meets its contract.
 use borrow.Author.Needs.{needs}
-use mathlib.Core.Path.{sym, _∙_}
+use mathlib.Core.Path.{_≡_, sym, _∙_}
+use mathlib.Core.Bool.{true}
+use Prim.Native.Nat.{_+_}
 use native.Mathlib.Omega.{arith}
 use borrow.Author.Tests.{not-true, not-false}
+use lib.ListN.{length}
+use Rattle.rules.specs.Writer.{isWellFormed}
 use Rattle.numbers.specs.Numbers.{recordOf}
+use Rattle.writer.specs.Drafts.{draftOf, commandOf}
 use Rattle.writer.proofs.Answers.{refused-7006, refused-7001, refused-7004, formed-long, formed-ready}
 use Rattle.writer.proofs.write_numbers.Statement.{statement}
 use Rattle.writer.proofs.write_numbers.Tie as tie
@@ -29,52 +34,42 @@ add-size c = search needs
 refusal-requires-2 : tie.Need-refusal-requires-2
 refusal-requires-2 c κs = search needs
 
+-- the draft is well formed, and the size is that of its octets
+formed : (c : tie.After-size-under) →
+    let a = c .before .before .before .before .before .args in
+    isWellFormed (draftOf (recordOf (a .numbers .now)) (a .s .now)) ≡ true
+formed c = sym (c .before .before .is-well-formed .ensures) ∙ not-false _ (c .before .if1 .left)
+
+long : (c : tie.After-size-under) →
+    let a = c .before .before .before .before .before .args in
+    20 + c .size-under .result ≡ length (commandOf (a .numbers .now) (a .s .now))
+long c =
+    let a = c .before .before .before .before .before .args in
+    formed-long (a .numbers .now) (a .s .now) (formed c) _ (c .size-under .ensures .is (a .s .now))
+
 returns-2 : tie.Need-returns-2
 returns-2 c =
-    let at-if2 = c .before in
-    let at-size-under = at-if2 .before in
-    let at-if1 = at-size-under .before in
-    let at-is-well-formed = at-if1 .before in
-    let start = at-is-well-formed .before .before .before in
-    let n = start .args .numbers .now in
-    let s = start .args .s .now in
-    let formed = sym (at-is-well-formed .is-well-formed .ensures) ∙ not-false _ (at-if1 .if1 .left) in
-    let long = formed-long n s formed _ (at-size-under .size-under .ensures .is s) in
-    refused-7001 (recordOf n) s (start .args .out .now) formed _ long (omega (arith, at-if2 .if2 .taken)) _
-    (c .refusal2 .ensures)
+    let z = c .before .before in
+    let a = z .before .before .before .before .before .args in
+    refused-7001 (recordOf (a .numbers .now)) (a .s .now) (a .out .now) (formed z) _ (long z)
+    (omega (arith, c .before .if2 .taken)) _ (c .refusal2 .ensures)
 
 refusal-requires-3 : tie.Need-refusal-requires-3
 refusal-requires-3 c κs = search needs
 
 returns-3 : tie.Need-returns-3
 returns-3 c =
-    let at-if3 = c .before in
-    let at-if2 = at-if3 .before in
-    let at-size-under = at-if2 .before in
-    let at-if1 = at-size-under .before in
-    let at-is-well-formed = at-if1 .before in
-    let start = at-is-well-formed .before .before .before in
-    let n = start .args .numbers .now in
-    let s = start .args .s .now in
-    let formed = sym (at-is-well-formed .is-well-formed .ensures) ∙ not-false _ (at-if1 .if1 .left) in
-    let long = formed-long n s formed _ (at-size-under .size-under .ensures .is s) in
-    refused-7004 (recordOf n) s (start .args .out .now) formed _ long (omega (arith, at-if2 .if2 .left))
-    (omega (arith, at-if3 .if3 .taken)) _ (c .refusal3 .ensures)
+    let z = c .before .before .before in
+    let a = z .before .before .before .before .before .args in
+    refused-7004 (recordOf (a .numbers .now)) (a .s .now) (a .out .now) (formed z) _ (long z)
+    (omega (arith, c .before .before .if2 .left)) (omega (arith, c .before .if3 .taken)) _ (c .refusal3 .ensures)
 
 write-ready-requires : tie.Need-write-ready-requires
 write-ready-requires c κs =
-    let at-if3 = c .before in
-    let at-if2 = at-if3 .before in
-    let at-size-under = at-if2 .before in
-    let at-if1 = at-size-under .before in
-    let at-is-well-formed = at-if1 .before in
-    let start = at-is-well-formed .before .before .before in
-    let n = start .args .numbers .now in
-    let s = start .args .s .now in
-    let formed = sym (at-is-well-formed .is-well-formed .ensures) ∙ not-false _ (at-if1 .if1 .left) in
-    let long = formed-long n s formed _ (at-size-under .size-under .ensures .is s) in
-    formed-ready n s formed (start .args .out .now) _ long (omega (arith, at-if2 .if2 .left))
-    (omega (arith, at-if3 .if3 .left))
+    let z = c .before .before .before in
+    let a = z .before .before .before .before .before .args in
+    formed-ready (a .numbers .now) (a .s .now) (formed z) (a .out .now) _ (long z)
+    (omega (arith, c .before .before .if2 .left)) (omega (arith, c .before .if3 .left))
 
 same-length : tie.Need-same-length
 same-length c = search needs

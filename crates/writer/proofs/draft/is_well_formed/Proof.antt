@@ -1,17 +1,17 @@
--- `writer::draft::is_well_formed` meets its contract.
+-- `writer::draft::is_well_formed` meets its contract: the tests in their order.
 use borrow.Author.Needs.{needs}
-use mathlib.Core.Path.{sym, ap, _∙_}
+use mathlib.Core.Path.{_≡_, sym, ap, _∙_}
+use mathlib.Core.Bool.{Bool, _&&_}
+use mathlib.Core.List.{List}
 use Prim.Native.Nat.{ℕ, _≤_}
 use native.Mathlib.Omega.{arith}
 use borrow.Author.Tests.{not-true, not-false}
-use lib.ListN.{drop}
-use Rattle.rules.specs.Writer.{allBlank}
+use lib.ListN.{length, drop}
+use Rattle.rules.specs.Dictionary.{dictionary}
+use Rattle.rules.specs.Writer.{allBlank, allPlaced, isTree, hasSizes, isWellFormed}
 use Rattle.numbers.specs.Numbers.{countOf, recordOf}
+use Rattle.writer.specs.Drafts.{draftOf, drafted, cells}
 use Rattle.writer.proofs.Formed.{formed-many, formed-few}
-use mathlib.Core.Path.{sym, ap, _∙_}
-use lib.ListN.{drop}
-use Prim.Native.Nat.{ℕ}
-use Rattle.numbers.specs.Numbers.{recordOf}
 use Rattle.writer.proofs.draft.is_well_formed.Statement.{statement}
 use Rattle.writer.proofs.draft.is_well_formed.Tie as tie
 
@@ -31,90 +31,72 @@ returns c =
 are-blank-requires : tie.Need-are-blank-requires
 are-blank-requires c κs = search needs
 
-returns-2 : tie.Need-returns-2
-returns-2 c =
-    let at-are-blank = c .before in
-    let at-if1 = at-are-blank .before in
-    let at-count = at-if1 .before in
+-- a draft of these numbers over these octets, and its tests from that of the parts on
+abbrev isFormed : List ℕ → List ℕ → Bool
+isFormed n s = isWellFormed (draftOf (recordOf n) s)
+
+abbrev isTreed : List ℕ → List ℕ → Bool
+isTreed n s = isTree 1 dictionary (cells s (drafted n))
+
+abbrev isSized : List ℕ → List ℕ → Bool
+isSized n s = hasSizes dictionary (cells s (drafted n))
+
+-- the tests that are left, once that of the unused places has answered
+after-blank : (c : tie.After-are-blank) →
+    let a = c .before .before .before .before .before .before .args in
+    isFormed (a .numbers .now) (a .s .now)
+    ≡ (c .are-blank .result && allPlaced dictionary (length (a .s .now)) (drafted (a .numbers .now))
+    && isTreed (a .numbers .now) (a .s .now) && isSized (a .numbers .now) (a .s .now))
+after-blank c =
+    let at-count = c .before .before in
     let at-length = at-count .before in
-    let start = at-length .before .before .before in
-    let n = start .args .numbers .now in
-    let few : countOf n ≤ 256 = omega (arith, at-count .count .ensures, at-if1 .if1 .left) in
+    let a = at-length .before .before .before .args in
+    let n = a .numbers .now in
+    let s = a .s .now in
+    let few : countOf n ≤ 256 = omega (arith, at-count .count .ensures, c .before .if1 .left) in
     let from = ap (λ (k : ℕ). allBlank (drop k (recordOf n .avps))) (at-count .count .ensures) in
-    let blank = sym (at-are-blank .are-blank .ensures ∙ from) ∙ not-true _ (c .if2 .taken) in
-    let formed = formed-few n (start .args .s .now) few (at-length .length .ensures .1 4)
-    (at-length .length .ensures .1 5) in
-    sym (formed ∙ rw blank)
+    formed-few n s few (at-length .length .ensures .1 4) (at-length .length .ensures .1 5)
+    ∙ ap (λ (b : Bool). b && allPlaced dictionary (length s) (drafted n) && isTreed n s && isSized n s)
+    (sym (c .are-blank .ensures ∙ from))
+
+returns-2 : tie.Need-returns-2
+returns-2 c = sym (after-blank (c .before) ∙ rw (not-true (c .before .are-blank .result) (c .if2 .taken)))
 
 are-placed-requires : tie.Need-are-placed-requires
 are-placed-requires c κs = search needs
 
+-- once that of the parts has
+after-placed : (c : tie.After-are-placed) →
+    let a = c .before .before .before .before .before .before .before .before .args in
+    isFormed (a .numbers .now) (a .s .now)
+    ≡ (c .are-placed .result && isTreed (a .numbers .now) (a .s .now) && isSized (a .numbers .now) (a .s .now))
+after-placed c =
+    after-blank (c .before .before) ∙ rw (not-false (c .before .before .are-blank .result) (c .before .if2 .left), sym (c .are-placed .ensures))
+
 returns-3 : tie.Need-returns-3
-returns-3 c =
-    let at-are-placed = c .before in
-    let at-if2 = at-are-placed .before in
-    let at-are-blank = at-if2 .before in
-    let at-if1 = at-are-blank .before in
-    let at-count = at-if1 .before in
-    let at-length = at-count .before in
-    let start = at-length .before .before .before in
-    let n = start .args .numbers .now in
-    let few : countOf n ≤ 256 = omega (arith, at-count .count .ensures, at-if1 .if1 .left) in
-    let from = ap (λ (k : ℕ). allBlank (drop k (recordOf n .avps))) (at-count .count .ensures) in
-    let blank = sym (at-are-blank .are-blank .ensures ∙ from) ∙ not-false _ (at-if2 .if2 .left) in
-    let placed = sym (at-are-placed .are-placed .ensures) ∙ not-true _ (c .if3 .taken) in
-    let formed = formed-few n (start .args .s .now) few (at-length .length .ensures .1 4)
-    (at-length .length .ensures .1 5) in
-    sym (formed ∙ rw (blank, placed))
+returns-3 c = sym (after-placed (c .before) ∙ rw (not-true (c .before .are-placed .result) (c .if3 .taken)))
 
 is-tree-requires : tie.Need-is-tree-requires
 is-tree-requires c κs = search needs
 
+-- once that of the depths has
+after-tree : (c : tie.After-is-tree) →
+    let a = c .before .before .before .before .before .before .before .before .before .before .args in
+    isFormed (a .numbers .now) (a .s .now) ≡ (c .is-tree .result && isSized (a .numbers .now) (a .s .now))
+after-tree c =
+    let a = c .before .before .before .before .before .before .before .before .before .before .args in
+    after-placed (c .before .before) ∙ rw (not-false (c .before .before .are-placed .result) (c .before .if3 .left), sym (c .is-tree .ensures (a .s .now)))
+
 returns-4 : tie.Need-returns-4
-returns-4 c =
-    let at-is-tree = c .before in
-    let at-if3 = at-is-tree .before in
-    let at-are-placed = at-if3 .before in
-    let at-if2 = at-are-placed .before in
-    let at-are-blank = at-if2 .before in
-    let at-if1 = at-are-blank .before in
-    let at-count = at-if1 .before in
-    let at-length = at-count .before in
-    let start = at-length .before .before .before in
-    let n = start .args .numbers .now in
-    let few : countOf n ≤ 256 = omega (arith, at-count .count .ensures, at-if1 .if1 .left) in
-    let from = ap (λ (k : ℕ). allBlank (drop k (recordOf n .avps))) (at-count .count .ensures) in
-    let blank = sym (at-are-blank .are-blank .ensures ∙ from) ∙ not-false _ (at-if2 .if2 .left) in
-    let placed = sym (at-are-placed .are-placed .ensures) ∙ not-false _ (at-if3 .if3 .left) in
-    let tree = sym (at-is-tree .is-tree .ensures (start .args .s .now)) ∙ not-true _ (c .if4 .taken) in
-    let formed = formed-few n (start .args .s .now) few (at-length .length .ensures .1 4)
-    (at-length .length .ensures .1 5) in
-    sym (formed ∙ rw (blank, placed, tree))
+returns-4 c = sym (after-tree (c .before) ∙ rw (not-true (c .before .is-tree .result) (c .if4 .taken)))
 
 has-sizes-requires : tie.Need-has-sizes-requires
 has-sizes-requires c κs = search needs
 
 returns-5 : tie.Need-returns-5
 returns-5 c =
-    let at-if4 = c .before in
-    let at-is-tree = at-if4 .before in
-    let at-if3 = at-is-tree .before in
-    let at-are-placed = at-if3 .before in
-    let at-if2 = at-are-placed .before in
-    let at-are-blank = at-if2 .before in
-    let at-if1 = at-are-blank .before in
-    let at-count = at-if1 .before in
-    let at-length = at-count .before in
-    let start = at-length .before .before .before in
-    let n = start .args .numbers .now in
-    let s = start .args .s .now in
-    let few : countOf n ≤ 256 = omega (arith, at-count .count .ensures, at-if1 .if1 .left) in
-    let from = ap (λ (k : ℕ). allBlank (drop k (recordOf n .avps))) (at-count .count .ensures) in
-    let blank = sym (at-are-blank .are-blank .ensures ∙ from) ∙ not-false _ (at-if2 .if2 .left) in
-    let placed = sym (at-are-placed .are-placed .ensures) ∙ not-false _ (at-if3 .if3 .left) in
-    let tree = sym (at-is-tree .is-tree .ensures s) ∙ not-false _ (at-if4 .if4 .left) in
-    let formed = formed-few n s few (at-length .length .ensures .1 4) (at-length .length .ensures .1 5) in
-    sym (formed ∙ rw (blank, placed, tree) (sym (c .has-sizes .ensures s)))
+    let a = c .before .before .before .before .before .before .before .before .before .before .before .before .args in
+    sym (after-tree (c .before .before) ∙ rw (not-false (c .before .before .is-tree .result) (c .before .if4 .left)) (sym (c .has-sizes .ensures (a .s .now))))
 
 pub is-well-formed-spec : {M : Type 1} → statement M
 is-well-formed-spec =
