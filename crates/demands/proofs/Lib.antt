@@ -18,3 +18,4 @@ pub mod numbering
 pub mod calls
 -- the demands, each in its own words
 pub mod Demands
+pub mod Examples
