@@ -1,15 +1,16 @@
 -- `writer::draft::are_placed` meets its contract. What is left to test at i is the whole test.
 use borrow.Author.Needs.{needs}
-use mathlib.Core.Path.{_≡_, refl, sym, ap, _∙_}
-use Prim.Native.Nat.{_-_, min}
+use mathlib.Core.Path.{_≡_, refl, sym, _∙_}
+use mathlib.Core.Bool.{Bool, true, false, _&&_}
+use Prim.Native.Nat.{_+_, _-_, _<_, min}
 use native.Mathlib.Omega.{arith}
 use borrow.Author.Tests.{not-true, not-false}
 use lib.ListN.{drop}
 use Rattle.rules.specs.Dictionary.{dictionary}
-use Rattle.rules.specs.Writer.{isPlaced, allPlaced}
+use Rattle.rules.specs.Writer.{allPlaced}
 use Rattle.numbers.specs.Numbers.{countOf}
 use Rattle.writer.specs.Drafts.{drafted}
-use Rattle.writer.proofs.Positions.{and-stop, and-on, placed-next, placed-end}
+use Rattle.writer.proofs.Positions.{placed-next, placed-end}
 use Rattle.writer.proofs.draft.are_placed.Statement.{statement}
 use Rattle.writer.proofs.draft.are_placed.Tie as tie
 
@@ -33,20 +34,22 @@ get-requires c κs = search needs
 is-placed-requires : tie.Need-is-placed-requires Inv-loop μ-loop
 is-placed-requires c κs = search needs
 
+-- the invariant, with what the test says of the AVP at the position
+next : (c : tie.After-is-placed Inv-loop μ-loop) (b : Bool) → c .is-placed .result ≡ b →
+    let l = c .before .before .before .loop in
+    let a = c .before .before .before .before .before .args in
+    (b && allPlaced dictionary (a .size) (drop (l .i + 1) (drafted (a .numbers .now))))
+    ≡ allPlaced dictionary (a .size) (drafted (a .numbers .now))
+next c b e =
+    let at-loop-test = c .before .before in
+    let l = at-loop-test .before .loop in
+    let a = at-loop-test .before .before .before .args in
+    let used : l .i < min (countOf (a .numbers .now)) 256 = omega (arith, at-loop-test .loop-test .taken, l .inv .0) in
+    rw (← e, c .is-placed .ensures, c .before .get .ensures)
+    (sym (placed-next (a .numbers .now) (a .size) (l .i) used) ∙ l .inv .1)
+
 returns : tie.Need-returns Inv-loop μ-loop
-returns c =
-    let at-is-placed = c .before in
-    let at-get = at-is-placed .before in
-    let at-loop-test = at-get .before in
-    let at-loop = at-loop-test .before in
-    let start = at-loop .before .before in
-    let n = start .args .numbers .now in
-    let size = start .args .size in
-    let i = at-loop .loop .i in
-    let at = ap (isPlaced dictionary size) (sym (at-get .get .ensures)) in
-    let here = at ∙ sym (at-is-placed .is-placed .ensures) ∙ not-true _ (c .if1 .taken) in
-    let next = placed-next n size i (omega (arith, at-loop-test .loop-test .taken, at-loop .loop .inv .0)) in
-    sym (and-stop _ _ next here) ∙ at-loop .loop .inv .1
+returns c = next (c .before) false (not-true _ (c .if1 .taken))
 
 add-i : tie.Need-add-i Inv-loop μ-loop
 add-i c = search needs
@@ -56,18 +59,8 @@ loop-less c = search needs
 
 loop-again : tie.Need-loop-again Inv-loop μ-loop
 loop-again c =
-    let at-is-placed = c .before in
-    let at-get = at-is-placed .before in
-    let at-loop-test = at-get .before in
-    let at-loop = at-loop-test .before in
-    let start = at-loop .before .before in
-    let n = start .args .numbers .now in
-    let size = start .args .size in
-    let i = at-loop .loop .i in
-    let at = ap (isPlaced dictionary size) (sym (at-get .get .ensures)) in
-    let here = at ∙ sym (at-is-placed .is-placed .ensures) ∙ not-false _ (c .if1 .left) in
-    let next = placed-next n size i (omega (arith, at-loop-test .loop-test .taken, at-loop .loop .inv .0)) in
-    (at-loop .loop .inv .0, sym (and-on _ _ next here) ∙ at-loop .loop .inv .1)
+    let l = c .before .before .before .before .loop in
+    (l .inv .0, next (c .before) true (not-false _ (c .if1 .left)))
 
 returns-2 : tie.Need-returns-2 Inv-loop μ-loop
 returns-2 c =
