@@ -1,13 +1,14 @@
 -- `writer::draft::are_blank` meets its contract. What is left to test at i is the whole test.
 use borrow.Author.Needs.{needs}
-use mathlib.Core.Path.{_≡_, refl, sym, ap, _∙_}
-use Prim.Native.Nat.{_-_}
+use mathlib.Core.Path.{_≡_, refl, sym, _∙_}
+use mathlib.Core.Bool.{Bool, true, false, _&&_}
+use Prim.Native.Nat.{_+_, _-_}
+use native.Mathlib.Omega.{arith}
 use borrow.Author.Tests.{not-true, not-false}
 use lib.ListN.{drop}
-use Rattle.rules.specs.Writer.{isBlank, allBlank}
+use Rattle.rules.specs.Writer.{allBlank}
 use Rattle.numbers.specs.Numbers.{recordOf}
-use Rattle.writer.proofs.Positions.{and-stop, and-on, blank-next, blank-end}
-use native.Mathlib.Omega.{arith}
+use Rattle.writer.proofs.Positions.{blank-next, blank-end}
 use Rattle.writer.proofs.draft.are_blank.Statement.{statement}
 use Rattle.writer.proofs.draft.are_blank.Tie as tie
 
@@ -27,19 +28,21 @@ get-requires c κs = search needs
 is-blank-requires : tie.Need-is-blank-requires Inv-loop μ-loop
 is-blank-requires c κs = search needs
 
+-- the invariant, with what the test says of the AVP at the position
+next : (c : tie.After-is-blank Inv-loop μ-loop) (b : Bool) → c .is-blank .result ≡ b →
+    let l = c .before .before .before .loop in
+    let a = c .before .before .before .before .args in
+    (b && allBlank (drop (l .i + 1) (recordOf (a .numbers .now) .avps)))
+    ≡ allBlank (drop (a .from) (recordOf (a .numbers .now) .avps))
+next c b e =
+    let at-loop-test = c .before .before in
+    let l = at-loop-test .before .loop in
+    let n = at-loop-test .before .before .args .numbers .now in
+    rw (← e, c .is-blank .ensures, c .before .get .ensures)
+    (sym (blank-next n (l .i) (omega (arith, at-loop-test .loop-test .taken))) ∙ l .inv)
+
 returns : tie.Need-returns Inv-loop μ-loop
-returns c =
-    let at-is-blank = c .before in
-    let at-get = at-is-blank .before in
-    let at-loop-test = at-get .before in
-    let at-loop = at-loop-test .before in
-    let start = at-loop .before in
-    let n = start .args .numbers .now in
-    let i = at-loop .loop .i in
-    let here = ap isBlank (sym (at-get .get .ensures)) ∙ sym (at-is-blank .is-blank .ensures) ∙ not-true _
-    (c .if1 .taken) in
-    let next = blank-next n i (omega (arith, at-loop-test .loop-test .taken)) in
-    sym (and-stop _ _ next here) ∙ at-loop .loop .inv
+returns c = next (c .before) false (not-true _ (c .if1 .taken))
 
 add-i : tie.Need-add-i Inv-loop μ-loop
 add-i c = search needs
@@ -48,18 +51,7 @@ loop-less : tie.Need-loop-less Inv-loop μ-loop
 loop-less c = search needs
 
 loop-again : tie.Need-loop-again Inv-loop μ-loop
-loop-again c =
-    let at-is-blank = c .before in
-    let at-get = at-is-blank .before in
-    let at-loop-test = at-get .before in
-    let at-loop = at-loop-test .before in
-    let start = at-loop .before in
-    let n = start .args .numbers .now in
-    let i = at-loop .loop .i in
-    let here = ap isBlank (sym (at-get .get .ensures)) ∙ sym (at-is-blank .is-blank .ensures) ∙ not-false _
-    (c .if1 .left) in
-    let next = blank-next n i (omega (arith, at-loop-test .loop-test .taken)) in
-    sym (and-on _ _ next here) ∙ at-loop .loop .inv
+loop-again c = next (c .before) true (not-false _ (c .if1 .left))
 
 returns-2 : tie.Need-returns-2 Inv-loop μ-loop
 returns-2 c =
