@@ -1,20 +1,17 @@
 -- `writer::draft::is_tree` meets its contract. What is left to test at i is the whole test.
 use borrow.Author.Needs.{needs}
-use mathlib.Core.Path.{_≡_, refl, sym, ap, _∙_}
-use mathlib.Core.Bool.{_&&_}
+use mathlib.Core.Path.{_≡_, refl, sym, _∙_}
+use mathlib.Core.Bool.{Bool, true, false, _&&_}
 use mathlib.Core.List.{List}
 use Prim.Native.Nat.{ℕ, _+_, _-_, _<_, min}
 use native.Mathlib.Omega.{arith}
 use borrow.Author.Tests.{not-true, not-false}
-use lib.Dec.{leb}
-use Rattle.rules.specs.declared.Avp.{Avp}
 use Rattle.rules.specs.Dictionary.{dictionary}
 use Rattle.rules.specs.Writer.{nextDepth}
-use Rattle.numbers.specs.Numbers.{countOf, avpAt}
+use Rattle.numbers.specs.Numbers.{countOf}
 use Rattle.writer.specs.Drafts.{cellIn}
 use Rattle.writer.proofs.Cases.{in-tree-most}
-use Rattle.writer.proofs.Positions.{and-stop, and-on, treeLeft, tree-next, tree-end}
-use Prim.Native.Nat.{ℕ, _+_, _-_, min}
+use Rattle.writer.proofs.Positions.{treeLeft, tree-next, tree-end}
 use Rattle.writer.proofs.draft.is_tree.Statement.{statement}
 use Rattle.writer.proofs.draft.is_tree.Tie as tie
 
@@ -37,21 +34,20 @@ get-requires c κs = search needs
 is-in-tree-requires : tie.Need-is-in-tree-requires Inv-loop μ-loop
 is-in-tree-requires c κs = search needs
 
+-- the invariant, with what the test says of the AVP at the position
+next : (c : tie.After-is-in-tree Inv-loop μ-loop) (s : List ℕ) (b : Bool) → c .is-in-tree .result ≡ b →
+    let l = c .before .before .before .loop in
+    let n = c .before .before .before .before .before .args .numbers .now in
+    (b && treeLeft n s (nextDepth dictionary (cellIn s (c .before .get .result))) (l .i + 1)) ≡ treeLeft n s 1 0
+next c s b e =
+    let at-loop-test = c .before .before in
+    let l = at-loop-test .before .loop in
+    let n = at-loop-test .before .before .before .args .numbers .now in
+    let used : l .i < min (countOf n) 256 = omega (arith, at-loop-test .loop-test .taken, l .inv .0) in
+    rw (← e, c .is-in-tree .ensures, c .before .get .ensures) (sym (tree-next n s (l .most) (l .i) used) ∙ l .inv .1 s)
+
 returns : tie.Need-returns Inv-loop μ-loop
-returns c s =
-    let at-is-in-tree = c .before in
-    let at-get = at-is-in-tree .before in
-    let at-loop-test = at-get .before in
-    let at-loop = at-loop-test .before in
-    let start = at-loop .before .before in
-    let n = start .args .numbers .now in
-    let most = at-loop .loop .most in
-    let at = ap (λ (a : Avp). leb 1 (a .depth) && leb (a .depth) most && leb (a .depth) 4)
-    (sym (at-get .get .ensures)) in
-    let here = at ∙ sym (at-is-in-tree .is-in-tree .ensures) ∙ not-true _ (c .if1 .taken) in
-    let next = tree-next n s most (at-loop .loop .i)
-    (omega (arith, at-loop-test .loop-test .taken, at-loop .loop .inv .0)) in
-    sym (and-stop _ _ next here) ∙ at-loop .loop .inv .1 s
+returns c s = next (c .before) s false (not-true _ (c .if1 .taken))
 
 next-depth-requires : tie.Need-next-depth-requires Inv-loop μ-loop
 next-depth-requires c κs =
@@ -67,26 +63,10 @@ loop-less c = search needs
 
 loop-again : tie.Need-loop-again Inv-loop μ-loop
 loop-again c =
-    let at-if1 = c .before in
-    let at-is-in-tree = at-if1 .before in
-    let at-get = at-is-in-tree .before in
-    let at-loop-test = at-get .before in
-    let at-loop = at-loop-test .before in
-    let start = at-loop .before .before in
-    let n = start .args .numbers .now in
-    let most = at-loop .loop .most in
-    let i = at-loop .loop .i in
-    let at = ap (λ (a : Avp). leb 1 (a .depth) && leb (a .depth) most && leb (a .depth) 4)
-    (sym (at-get .get .ensures)) in
-    let here = at ∙ sym (at-is-in-tree .is-in-tree .ensures) ∙ not-false _ (at-if1 .if1 .left) in
-    let depth : (s : List ℕ) → c .next-depth .result ≡ nextDepth dictionary (cellIn s (avpAt n i)) =
-    λ s. c .next-depth .ensures s ∙ ap (λ (a : Avp). nextDepth dictionary (cellIn s a)) (at-get .get .ensures) in
-    let used : i < min (countOf n) 256 = omega (arith, at-loop-test .loop-test .taken, at-loop .loop .inv .0) in (
-      at-loop .loop .inv .0,
-      λ s.
-          ap (λ (d : ℕ). treeLeft n s d (i + 1)) (depth s)
-          ∙ sym (and-on _ _ (tree-next n s most i used) here)
-          ∙ at-loop .loop .inv .1 s,
+    let at-is-in-tree = c .before .before in
+    let l = at-is-in-tree .before .before .before .loop in (
+      l .inv .0,
+      λ s. rw (c .next-depth .ensures s) (next at-is-in-tree s true (not-false _ (c .before .if1 .left))),
     )
 
 returns-2 : tie.Need-returns-2 Inv-loop μ-loop
