@@ -1,11 +1,17 @@
 -- `walk::frame::framed` meets its contract.
 use borrow.Author.Needs.{needs}
-use mathlib.Core.Path.{sym, ap, _∙_}
-use Prim.Native.Nat.{_≤_}
+use mathlib.Core.Path.{_≡_, sym, ap, _∙_}
+use mathlib.Core.Bool.{Bool, true, false}
+use Prim.Native.Nat.{ℕ, _≤_}
 use native.Mathlib.Omega.{arith}
 use borrow.Author.Tests.{eq-eqb, ne-eqb}
+use lib.ListN.{getD}
+use Rattle.rules.specs.Verdict.{verdict}
+use Rattle.rules.specs.Avp.{avpAt}
+use Rattle.rules.specs.Walk.{framing}
+use Rattle.walk.specs.Promise.{frameOf, avpBy}
 use Rattle.walk.specs.declared.frame.Frame.the-variants.{Holds, Broken}
-use Rattle.walk.proofs.Framing.{fit-header, read-left, read-plain, read-vendor-left, read-vendor}
+use Rattle.walk.proofs.Framing.{fit-header, restOf, read-left, read-plain, read-vendor-left, read-vendor}
 use Rattle.walk.proofs.frame.framed.Statement.{statement}
 use Rattle.walk.proofs.frame.framed.Tie as tie
 
@@ -39,21 +45,36 @@ number3-requires c κs = search needs
 misfits-requires : tie.Need-misfits-requires
 misfits-requires c κs = search needs
 
-fault-requires-2 : tie.Need-fault-requires-2
-fault-requires-2 c κs = search needs
+-- both answers by a header of this size, once its length field is tested
+abbrev By : tie.After-number3 → Bool → ℕ → ℕ → Type 0
+By size misfits header vendor =
+    let code = size .before .before in
+    let st = code .before .before .before .before in
+    let a = st .args in
+    let frame = frameOf (framing (a .s .now) (a .at) (a .end)) (avpAt (a .s .now) (a .at) (a .depth)) in
+    let flags = getD (restOf (a .s .now) (a .at) (a .end) (st .pre)) 4 0 in
+    (misfits ≡ true → Broken (verdict 5014 (a .at) vendor (code .number4 .result)) ≡ frame)
+    × (misfits ≡ false
+    → Holds (avpBy (a .at) (a .depth) header vendor (code .number4 .result) flags (size .number3 .result)) ≡ frame)
 
-returns-2 : tie.Need-returns-2
-returns-2 c =
-    let q = c .before .before in
-    let v = q .before in
+-- a header without Vendor-Id
+plain : (c : tie.After-misfits) → By (c .before .before) (c .misfits .result) 8 0
+plain c =
+    let v = c .before in
     let size = v .before in
     let code = size .before .before in
     let eight = code .before in
     let st = eight .before .before .before in
     let a = st .args in
-    ap Broken (c .fault2 .ensures)
-    ∙ read-plain (a .s .now) (a .at) (a .end) (st .pre) (a .depth) (eight .if1 .left) (code .number4 .ensures .is)
-    (size .number3 .ensures .is) (ne-eqb _ _ (v .if2 .taken)) .0 (sym (q .misfits .ensures) ∙ c .before .if3 .taken)
+    rw (c .misfits .ensures)
+    (read-plain (a .s .now) (a .at) (a .end) (st .pre) (a .depth) (eight .if1 .left) (code .number4 .ensures .is)
+    (size .number3 .ensures .is) (ne-eqb _ _ (v .if2 .taken)))
+
+fault-requires-2 : tie.Need-fault-requires-2
+fault-requires-2 c κs = search needs
+
+returns-2 : tie.Need-returns-2
+returns-2 c = ap Broken (c .fault2 .ensures) ∙ plain (c .before .before) .0 (c .before .if3 .taken)
 
 avp-by-requires : tie.Need-avp-by-requires
 avp-by-requires c κs =
@@ -63,17 +84,7 @@ avp-by-requires c κs =
     omega (arith, fit, size .number3 .ensures .below, size .before .before .before .before .before .before .pre)
 
 returns-3 : tie.Need-returns-3
-returns-3 c =
-    let q = c .before .before in
-    let v = q .before in
-    let size = v .before in
-    let code = size .before .before in
-    let eight = code .before in
-    let st = eight .before .before .before in
-    let a = st .args in
-    ap Holds (c .avp-by .ensures)
-    ∙ read-plain (a .s .now) (a .at) (a .end) (st .pre) (a .depth) (eight .if1 .left) (code .number4 .ensures .is)
-    (size .number3 .ensures .is) (ne-eqb _ _ (v .if2 .taken)) .1 (sym (q .misfits .ensures) ∙ c .before .if3 .left)
+returns-3 c = ap Holds (c .avp-by .ensures) ∙ plain (c .before .before) .1 (c .before .if3 .left)
 
 fault-requires-3 : tie.Need-fault-requires-3
 fault-requires-3 c κs = search needs
@@ -95,13 +106,11 @@ number4-requires-2 c κs = search needs
 misfits-requires-2 : tie.Need-misfits-requires-2
 misfits-requires-2 c κs = search needs
 
-fault-requires-4 : tie.Need-fault-requires-4
-fault-requires-4 c κs = search needs
-
-returns-5 : tie.Need-returns-5
-returns-5 c =
-    let q = c .before .before in
-    let vendor = q .before in
+-- a header with Vendor-Id
+by-vendor :
+    (c : tie.After-misfits2) → By (c .before .before .before .before) (c .misfits2 .result) 12 (c .before .number42 .result)
+by-vendor c =
+    let vendor = c .before in
     let twelve = vendor .before in
     let v = twelve .before in
     let size = v .before in
@@ -109,9 +118,15 @@ returns-5 c =
     let eight = code .before in
     let st = eight .before .before .before in
     let a = st .args in
-    ap Broken (c .fault4 .ensures)
-    ∙ read-vendor (a .s .now) (a .at) (a .end) (st .pre) (a .depth) (eight .if1 .left) (code .number4 .ensures .is)
-    (size .number3 .ensures .is) (eq-eqb _ _ (v .if2 .left)) (twelve .if4 .left) (vendor .number42 .ensures .is) .0 (sym (q .misfits2 .ensures) ∙ c .before .if5 .taken)
+    rw (c .misfits2 .ensures)
+    (read-vendor (a .s .now) (a .at) (a .end) (st .pre) (a .depth) (eight .if1 .left) (code .number4 .ensures .is)
+    (size .number3 .ensures .is) (eq-eqb _ _ (v .if2 .left)) (twelve .if4 .left) (vendor .number42 .ensures .is))
+
+fault-requires-4 : tie.Need-fault-requires-4
+fault-requires-4 c κs = search needs
+
+returns-5 : tie.Need-returns-5
+returns-5 c = ap Broken (c .fault4 .ensures) ∙ by-vendor (c .before .before) .0 (c .before .if5 .taken)
 
 avp-by-requires-2 : tie.Need-avp-by-requires-2
 avp-by-requires-2 c κs =
@@ -121,19 +136,7 @@ avp-by-requires-2 c κs =
     omega (arith, fit, size .number3 .ensures .below, size .before .before .before .before .before .before .pre)
 
 returns-6 : tie.Need-returns-6
-returns-6 c =
-    let q = c .before .before in
-    let vendor = q .before in
-    let twelve = vendor .before in
-    let v = twelve .before in
-    let size = v .before in
-    let code = size .before .before in
-    let eight = code .before in
-    let st = eight .before .before .before in
-    let a = st .args in
-    ap Holds (c .avp-by2 .ensures)
-    ∙ read-vendor (a .s .now) (a .at) (a .end) (st .pre) (a .depth) (eight .if1 .left) (code .number4 .ensures .is)
-    (size .number3 .ensures .is) (eq-eqb _ _ (v .if2 .left)) (twelve .if4 .left) (vendor .number42 .ensures .is) .1 (sym (q .misfits2 .ensures) ∙ c .before .if5 .left)
+returns-6 c = ap Holds (c .avp-by2 .ensures) ∙ by-vendor (c .before .before) .1 (c .before .if5 .left)
 
 pub framed-spec : {M : Type 1} → statement M
 framed-spec =
