@@ -5,6 +5,7 @@ use native.Mathlib.Omega.{arith}
 use mathlib.Core.Path.{sym, _∙_}
 use Prim.Native.Nat.{ℕ, _+_, _-_, _*_, _<_}
 use Rattle.rules.proofs.Walk.{avp-many, avp-fault}
+use Rattle.walk.specs.Promise.{nextAfter, stepTo, AvpWalked}
 use Rattle.walk.proofs.OneAvp.{group-placed, group-level, fault-walked, plain-walked, group-walked}
 use Rattle.walk.proofs.Along.{Turn, turn-start, turn-again, turn-stopped, turn-end}
 use borrow.Fn.Kinds.{In}
@@ -329,6 +330,30 @@ walk-avp-returns-3 t c =
     (plain-walked (a .s .now) (a .at) (a .end) (a .depth) (a .count) (a .log .now) (k .before .if1 .left)
     _ (p .put .ensures) (sym (k .check .ensures) ∙ g .c2 .given .1))
 
+-- what is promised, with the group and what the walk of its members gave
+group-promise : (t : ℕ) (l : walk-avp-lts.After-walk-list (
+  check-reads.Asked,
+  check-reads.Learnt,
+  put-reads.Asked,
+  put-reads.Learnt,
+  next-after-reads.Asked,
+  next-after-reads.Learnt,
+  walk-list-below t,
+  walk-list.Post,
+) (walk-avp-at t) walk-avp.Post) →
+    let g = l .before .before .before .before .before .before .before in
+    let a = g .before .before .before .before .before .args in
+    AvpWalked (a .s .now) (a .at) (a .end) (a .depth) (a .count) (a .log .now)
+    (stepTo (nextAfter (g .c3 .given .0 .0)) (l .walk-list .result)) (l .walk-list .last .1 .1 .1 .1 .1 .0)
+group-promise t l =
+    let w = l .before .before .before .before in
+    let g = w .before .before .before in
+    let k = g .before .before in
+    let st = k .before .before .before in
+    let a = st .args in
+    group-walked (a .s .now) (a .at) (a .end) (a .depth) (a .count) (a .log .now) (k .before .if1 .left)
+    _ (w .put2 .ensures) (sym (k .check .ensures) ∙ g .c3 .given .1) _ _ (l .walk-list .ensures)
+
 walk-avp-returns-4 : (t : ℕ) → walk-avp-lts.Need-returns-4 (
   check-reads.Asked,
   check-reads.Learnt,
@@ -341,15 +366,7 @@ walk-avp-returns-4 : (t : ℕ) → walk-avp-lts.Need-returns-4 (
 ) (walk-avp-at t) walk-avp.Post
 walk-avp-returns-4 t c =
     let m = c .before .before in
-    let l = m .before .before in
-    let w = l .before .before .before .before in
-    let g = w .before .before .before in
-    let k = g .before .before in
-    let st = k .before .before .before in
-    let a = st .args in
-    rw (c .next-after2 .ensures)
-    (group-walked (a .s .now) (a .at) (a .end) (a .depth) (a .count) (a .log .now) (k .before .if1 .left)
-    _ (w .put2 .ensures) (sym (k .check .ensures) ∙ g .c3 .given .1) _ _ (rw (m .members .given .1) at (l .walk-list .ensures)))
+    rw (c .next-after2 .ensures) (rw (m .members .given .1) at (group-promise t (m .before .before)))
 
 walk-avp-returns-5 : (t : ℕ) → walk-avp-lts.Need-returns-5 (
   check-reads.Asked,
@@ -361,16 +378,7 @@ walk-avp-returns-5 : (t : ℕ) → walk-avp-lts.Need-returns-5 (
   walk-list-below t,
   walk-list.Post,
 ) (walk-avp-at t) walk-avp.Post
-walk-avp-returns-5 t c =
-    let m = c .before in
-    let l = m .before .before in
-    let w = l .before .before .before .before in
-    let g = w .before .before .before in
-    let k = g .before .before in
-    let st = k .before .before .before in
-    let a = st .args in
-    group-walked (a .s .now) (a .at) (a .end) (a .depth) (a .count) (a .log .now) (k .before .if1 .left)
-    _ (w .put2 .ensures) (sym (k .check .ensures) ∙ g .c3 .given .1) _ _ (rw (m .members2 .given .1) at (l .walk-list .ensures))
+walk-avp-returns-5 t c = rw (c .before .members2 .given .1) at (group-promise t (c .before .before .before))
 
 abbrev walk-list-Inv-loop : walk-list-lts.InvT-loop
 walk-list-Inv-loop s at end depth count log₀ place₀ met₀ log place met = Turn s at end depth count log₀ place met log
