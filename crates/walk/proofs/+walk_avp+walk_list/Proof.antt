@@ -42,7 +42,9 @@ abbrev walk-list-below : ℕ → In 2 walk-list-kinds.ps
 walk-list-below t =
     and 2 walk-list-kinds.ps (falls 2 walk-list-kinds.ps _<_ μ-walk-list t) walk-list.Pre
 
-walk-avp-cast-t17 : (t : ℕ) → walk-avp-lts.Need-cast-t17 (
+-- what the calls of the AVP walk ask and tell
+abbrev walk-avp-claims : ℕ → walk-avp-lts.Claims
+walk-avp-claims t = (
   check-reads.Asked,
   check-reads.Learnt,
   put-reads.Asked,
@@ -51,155 +53,49 @@ walk-avp-cast-t17 : (t : ℕ) → walk-avp-lts.Need-cast-t17 (
   next-after-reads.Learnt,
   walk-list-below t,
   walk-list.Post,
-) (walk-avp-at t) walk-avp.Post
+)
+
+walk-avp-cast-t17 : (t : ℕ) → walk-avp-lts.Need-cast-t17 (walk-avp-claims t) (walk-avp-at t) walk-avp.Post
 walk-avp-cast-t17 t c = omega arith
 
-walk-avp-returns : (t : ℕ) → walk-avp-lts.Need-returns (
-  check-reads.Asked,
-  check-reads.Learnt,
-  put-reads.Asked,
-  put-reads.Learnt,
-  next-after-reads.Asked,
-  next-after-reads.Learnt,
-  walk-list-below t,
-  walk-list.Post,
-) (walk-avp-at t) walk-avp.Post
+walk-avp-returns : (t : ℕ) → walk-avp-lts.Need-returns (walk-avp-claims t) (walk-avp-at t) walk-avp.Post
 walk-avp-returns t c =
     let st = c .before .before in
     let a = st .args in
     fault-walked (a .s .now) (a .at) (a .end) (a .depth) (a .count) (a .log .now) _
     (λ n. avp-many _ _ _ _ _ _ _ (c .if1 .taken))
 
-walk-avp-check-requires : (t : ℕ) → walk-avp-lts.Need-check-requires (
-  check-reads.Asked,
-  check-reads.Learnt,
-  put-reads.Asked,
-  put-reads.Learnt,
-  next-after-reads.Asked,
-  next-after-reads.Learnt,
-  walk-list-below t,
-  walk-list.Post,
-) (walk-avp-at t) walk-avp.Post
+walk-avp-check-requires : (t : ℕ) → walk-avp-lts.Need-check-requires (walk-avp-claims t) (walk-avp-at t) walk-avp.Post
 walk-avp-check-requires t c κs = c .before .before .pre .1 .place
 
-walk-avp-enum-known-c : (t : ℕ) → walk-avp-lts.Need-enum-known-c (
-  check-reads.Asked,
-  check-reads.Learnt,
-  put-reads.Asked,
-  put-reads.Learnt,
-  next-after-reads.Asked,
-  next-after-reads.Learnt,
-  walk-list-below t,
-  walk-list.Post,
-) (walk-avp-at t) walk-avp.Post
+walk-avp-enum-known-c : (t : ℕ) → walk-avp-lts.Need-enum-known-c (walk-avp-claims t) (walk-avp-at t) walk-avp.Post
 walk-avp-enum-known-c t c = search needs
 
-walk-avp-enum-known-c-2 : (t : ℕ) → walk-avp-lts.Need-enum-known-c-2 (
-  check-reads.Asked,
-  check-reads.Learnt,
-  put-reads.Asked,
-  put-reads.Learnt,
-  next-after-reads.Asked,
-  next-after-reads.Learnt,
-  walk-list-below t,
-  walk-list.Post,
-) (walk-avp-at t) walk-avp.Post
+walk-avp-enum-known-c-2 : (t : ℕ) → walk-avp-lts.Need-enum-known-c-2 (walk-avp-claims t) (walk-avp-at t) walk-avp.Post
 walk-avp-enum-known-c-2 t c = search needs
 
-walk-avp-put-requires : (t : ℕ) → walk-avp-lts.Need-put-requires (
-  check-reads.Asked,
-  check-reads.Learnt,
-  put-reads.Asked,
-  put-reads.Learnt,
-  next-after-reads.Asked,
-  next-after-reads.Learnt,
-  walk-list-below t,
-  walk-list.Post,
-) (walk-avp-at t) walk-avp.Post
+walk-avp-put-requires : (t : ℕ) → walk-avp-lts.Need-put-requires (walk-avp-claims t) (walk-avp-at t) walk-avp.Post
 walk-avp-put-requires t c κs = search needs
 
-walk-avp-add-t22 : (t : ℕ) → walk-avp-lts.Need-add-t22 (
-  check-reads.Asked,
-  check-reads.Learnt,
-  put-reads.Asked,
-  put-reads.Learnt,
-  next-after-reads.Asked,
-  next-after-reads.Learnt,
-  walk-list-below t,
-  walk-list.Post,
-) (walk-avp-at t) walk-avp.Post
+walk-avp-add-t22 : (t : ℕ) → walk-avp-lts.Need-add-t22 (walk-avp-claims t) (walk-avp-at t) walk-avp.Post
 walk-avp-add-t22 t c = omega arith
 
-walk-avp-next-after-requires : (t : ℕ) → walk-avp-lts.Need-next-after-requires (
-  check-reads.Asked,
-  check-reads.Learnt,
-  put-reads.Asked,
-  put-reads.Learnt,
-  next-after-reads.Asked,
-  next-after-reads.Learnt,
-  walk-list-below t,
-  walk-list.Post,
-) (walk-avp-at t) walk-avp.Post
+walk-avp-next-after-requires : (t : ℕ) → walk-avp-lts.Need-next-after-requires (walk-avp-claims t) (walk-avp-at t) walk-avp.Post
 walk-avp-next-after-requires t c κs = search needs
 
-walk-avp-enum-known-c-3 : (t : ℕ) → walk-avp-lts.Need-enum-known-c-3 (
-  check-reads.Asked,
-  check-reads.Learnt,
-  put-reads.Asked,
-  put-reads.Learnt,
-  next-after-reads.Asked,
-  next-after-reads.Learnt,
-  walk-list-below t,
-  walk-list.Post,
-) (walk-avp-at t) walk-avp.Post
+walk-avp-enum-known-c-3 : (t : ℕ) → walk-avp-lts.Need-enum-known-c-3 (walk-avp-claims t) (walk-avp-at t) walk-avp.Post
 walk-avp-enum-known-c-3 t c = search needs
 
-walk-avp-put-requires-2 : (t : ℕ) → walk-avp-lts.Need-put-requires-2 (
-  check-reads.Asked,
-  check-reads.Learnt,
-  put-reads.Asked,
-  put-reads.Learnt,
-  next-after-reads.Asked,
-  next-after-reads.Learnt,
-  walk-list-below t,
-  walk-list.Post,
-) (walk-avp-at t) walk-avp.Post
+walk-avp-put-requires-2 : (t : ℕ) → walk-avp-lts.Need-put-requires-2 (walk-avp-claims t) (walk-avp-at t) walk-avp.Post
 walk-avp-put-requires-2 t c κs = search needs
 
-walk-avp-cast-start : (t : ℕ) → walk-avp-lts.Need-cast-start (
-  check-reads.Asked,
-  check-reads.Learnt,
-  put-reads.Asked,
-  put-reads.Learnt,
-  next-after-reads.Asked,
-  next-after-reads.Learnt,
-  walk-list-below t,
-  walk-list.Post,
-) (walk-avp-at t) walk-avp.Post
+walk-avp-cast-start : (t : ℕ) → walk-avp-lts.Need-cast-start (walk-avp-claims t) (walk-avp-at t) walk-avp.Post
 walk-avp-cast-start t c = search needs
 
-walk-avp-cast-length : (t : ℕ) → walk-avp-lts.Need-cast-length (
-  check-reads.Asked,
-  check-reads.Learnt,
-  put-reads.Asked,
-  put-reads.Learnt,
-  next-after-reads.Asked,
-  next-after-reads.Learnt,
-  walk-list-below t,
-  walk-list.Post,
-) (walk-avp-at t) walk-avp.Post
+walk-avp-cast-length : (t : ℕ) → walk-avp-lts.Need-cast-length (walk-avp-claims t) (walk-avp-at t) walk-avp.Post
 walk-avp-cast-length t c = search needs
 
-walk-avp-add-walk-list : (t : ℕ) → walk-avp-lts.Need-add-walk-list (
-  check-reads.Asked,
-  check-reads.Learnt,
-  put-reads.Asked,
-  put-reads.Learnt,
-  next-after-reads.Asked,
-  next-after-reads.Learnt,
-  walk-list-below t,
-  walk-list.Post,
-) (walk-avp-at t) walk-avp.Post
+walk-avp-add-walk-list : (t : ℕ) → walk-avp-lts.Need-add-walk-list (walk-avp-claims t) (walk-avp-at t) walk-avp.Post
 walk-avp-add-walk-list t c =
     let g = c .before .before .before .before .before in
     let k = g .before .before in
@@ -209,40 +105,13 @@ walk-avp-add-walk-list t c =
     let p = group-placed (a .s .now) (a .at) (a .end) (a .depth) e in
     omega (arith, p, st .pre .1 .place)
 
-walk-avp-add-walk-list-2 : (t : ℕ) → walk-avp-lts.Need-add-walk-list-2 (
-  check-reads.Asked,
-  check-reads.Learnt,
-  put-reads.Asked,
-  put-reads.Learnt,
-  next-after-reads.Asked,
-  next-after-reads.Learnt,
-  walk-list-below t,
-  walk-list.Post,
-) (walk-avp-at t) walk-avp.Post
+walk-avp-add-walk-list-2 : (t : ℕ) → walk-avp-lts.Need-add-walk-list-2 (walk-avp-claims t) (walk-avp-at t) walk-avp.Post
 walk-avp-add-walk-list-2 t c = omega (arith, c .before .before .before .before .before .before .before .before .before .before .pre .1)
 
-walk-avp-add-walk-list-3 : (t : ℕ) → walk-avp-lts.Need-add-walk-list-3 (
-  check-reads.Asked,
-  check-reads.Learnt,
-  put-reads.Asked,
-  put-reads.Learnt,
-  next-after-reads.Asked,
-  next-after-reads.Learnt,
-  walk-list-below t,
-  walk-list.Post,
-) (walk-avp-at t) walk-avp.Post
+walk-avp-add-walk-list-3 : (t : ℕ) → walk-avp-lts.Need-add-walk-list-3 (walk-avp-claims t) (walk-avp-at t) walk-avp.Post
 walk-avp-add-walk-list-3 t c = omega (arith, c .before .before .before .before .before .before .before .before .if1 .left)
 
-walk-avp-walk-list-requires : (t : ℕ) → walk-avp-lts.Need-walk-list-requires (
-  check-reads.Asked,
-  check-reads.Learnt,
-  put-reads.Asked,
-  put-reads.Learnt,
-  next-after-reads.Asked,
-  next-after-reads.Learnt,
-  walk-list-below t,
-  walk-list.Post,
-) (walk-avp-at t) walk-avp.Post
+walk-avp-walk-list-requires : (t : ℕ) → walk-avp-lts.Need-walk-list-requires (walk-avp-claims t) (walk-avp-at t) walk-avp.Post
 walk-avp-walk-list-requires t c κs =
     let g = c .before .before .before .before .before .before in
     let k = g .before .before in
@@ -257,52 +126,16 @@ walk-avp-walk-list-requires t c κs =
       record { place = omega (arith, p, place); level = omega (arith, l); few = omega (arith, few) },
     )
 
-walk-avp-enum-known-members : (t : ℕ) → walk-avp-lts.Need-enum-known-members (
-  check-reads.Asked,
-  check-reads.Learnt,
-  put-reads.Asked,
-  put-reads.Learnt,
-  next-after-reads.Asked,
-  next-after-reads.Learnt,
-  walk-list-below t,
-  walk-list.Post,
-) (walk-avp-at t) walk-avp.Post
+walk-avp-enum-known-members : (t : ℕ) → walk-avp-lts.Need-enum-known-members (walk-avp-claims t) (walk-avp-at t) walk-avp.Post
 walk-avp-enum-known-members t c = search needs
 
-walk-avp-next-after-requires-2 : (t : ℕ) → walk-avp-lts.Need-next-after-requires-2 (
-  check-reads.Asked,
-  check-reads.Learnt,
-  put-reads.Asked,
-  put-reads.Learnt,
-  next-after-reads.Asked,
-  next-after-reads.Learnt,
-  walk-list-below t,
-  walk-list.Post,
-) (walk-avp-at t) walk-avp.Post
+walk-avp-next-after-requires-2 : (t : ℕ) → walk-avp-lts.Need-next-after-requires-2 (walk-avp-claims t) (walk-avp-at t) walk-avp.Post
 walk-avp-next-after-requires-2 t c κs = search needs
 
-walk-avp-enum-known-members-2 : (t : ℕ) → walk-avp-lts.Need-enum-known-members-2 (
-  check-reads.Asked,
-  check-reads.Learnt,
-  put-reads.Asked,
-  put-reads.Learnt,
-  next-after-reads.Asked,
-  next-after-reads.Learnt,
-  walk-list-below t,
-  walk-list.Post,
-) (walk-avp-at t) walk-avp.Post
+walk-avp-enum-known-members-2 : (t : ℕ) → walk-avp-lts.Need-enum-known-members-2 (walk-avp-claims t) (walk-avp-at t) walk-avp.Post
 walk-avp-enum-known-members-2 t c = search needs
 
-walk-avp-returns-2 : (t : ℕ) → walk-avp-lts.Need-returns-2 (
-  check-reads.Asked,
-  check-reads.Learnt,
-  put-reads.Asked,
-  put-reads.Learnt,
-  next-after-reads.Asked,
-  next-after-reads.Learnt,
-  walk-list-below t,
-  walk-list.Post,
-) (walk-avp-at t) walk-avp.Post
+walk-avp-returns-2 : (t : ℕ) → walk-avp-lts.Need-returns-2 (walk-avp-claims t) (walk-avp-at t) walk-avp.Post
 walk-avp-returns-2 t c =
     let k = c .before .before .before in
     let st = k .before .before .before in
@@ -310,16 +143,7 @@ walk-avp-returns-2 t c =
     fault-walked (a .s .now) (a .at) (a .end) (a .depth) (a .count) (a .log .now) _
     (λ n. avp-fault _ _ _ _ _ _ _ (k .before .if1 .left) (sym (k .check .ensures) ∙ c .before .c .given .1))
 
-walk-avp-returns-3 : (t : ℕ) → walk-avp-lts.Need-returns-3 (
-  check-reads.Asked,
-  check-reads.Learnt,
-  put-reads.Asked,
-  put-reads.Learnt,
-  next-after-reads.Asked,
-  next-after-reads.Learnt,
-  walk-list-below t,
-  walk-list.Post,
-) (walk-avp-at t) walk-avp.Post
+walk-avp-returns-3 : (t : ℕ) → walk-avp-lts.Need-returns-3 (walk-avp-claims t) (walk-avp-at t) walk-avp.Post
 walk-avp-returns-3 t c =
     let p = c .before in
     let g = p .before .before .before in
@@ -331,16 +155,7 @@ walk-avp-returns-3 t c =
     _ (p .put .ensures) (sym (k .check .ensures) ∙ g .c2 .given .1))
 
 -- what is promised, with the group and what the walk of its members gave
-group-promise : (t : ℕ) (l : walk-avp-lts.After-walk-list (
-  check-reads.Asked,
-  check-reads.Learnt,
-  put-reads.Asked,
-  put-reads.Learnt,
-  next-after-reads.Asked,
-  next-after-reads.Learnt,
-  walk-list-below t,
-  walk-list.Post,
-) (walk-avp-at t) walk-avp.Post) →
+group-promise : (t : ℕ) (l : walk-avp-lts.After-walk-list (walk-avp-claims t) (walk-avp-at t) walk-avp.Post) →
     let g = l .before .before .before .before .before .before .before in
     let a = g .before .before .before .before .before .args in
     AvpWalked (a .s .now) (a .at) (a .end) (a .depth) (a .count) (a .log .now)
@@ -354,30 +169,12 @@ group-promise t l =
     group-walked (a .s .now) (a .at) (a .end) (a .depth) (a .count) (a .log .now) (k .before .if1 .left)
     _ (w .put2 .ensures) (sym (k .check .ensures) ∙ g .c3 .given .1) _ _ (l .walk-list .ensures)
 
-walk-avp-returns-4 : (t : ℕ) → walk-avp-lts.Need-returns-4 (
-  check-reads.Asked,
-  check-reads.Learnt,
-  put-reads.Asked,
-  put-reads.Learnt,
-  next-after-reads.Asked,
-  next-after-reads.Learnt,
-  walk-list-below t,
-  walk-list.Post,
-) (walk-avp-at t) walk-avp.Post
+walk-avp-returns-4 : (t : ℕ) → walk-avp-lts.Need-returns-4 (walk-avp-claims t) (walk-avp-at t) walk-avp.Post
 walk-avp-returns-4 t c =
     let m = c .before .before in
     rw (c .next-after2 .ensures) (rw (m .members .given .1) at (group-promise t (m .before .before)))
 
-walk-avp-returns-5 : (t : ℕ) → walk-avp-lts.Need-returns-5 (
-  check-reads.Asked,
-  check-reads.Learnt,
-  put-reads.Asked,
-  put-reads.Learnt,
-  next-after-reads.Asked,
-  next-after-reads.Learnt,
-  walk-list-below t,
-  walk-list.Post,
-) (walk-avp-at t) walk-avp.Post
+walk-avp-returns-5 : (t : ℕ) → walk-avp-lts.Need-returns-5 (walk-avp-claims t) (walk-avp-at t) walk-avp.Post
 walk-avp-returns-5 t c = rw (c .before .members2 .given .1) at (group-promise t (c .before .before .before))
 
 abbrev walk-list-Inv-loop : walk-list-lts.InvT-loop
@@ -474,16 +271,7 @@ walk-list-returns-2 :
 walk-list-returns-2 t c = turn-end _ _ _ _ _ _ _ _ _ (c .before .loop .inv) (c .loop-test .left)
 
 pub +walk-avp+walk-list-spec : {M : Type 1} → statement M
-+walk-avp+walk-list-spec = close μ-walk-avp μ-walk-list (λ t. walk-avp-lts.spec (
-  check-reads.Asked,
-  check-reads.Learnt,
-  put-reads.Asked,
-  put-reads.Learnt,
-  next-after-reads.Asked,
-  next-after-reads.Learnt,
-  walk-list-below t,
-  walk-list.Post,
-)
++walk-avp+walk-list-spec = close μ-walk-avp μ-walk-list (λ t. walk-avp-lts.spec (walk-avp-claims t)
     (walk-avp-at t)
     walk-avp.Post
     (walk-avp-cast-t17 t)
