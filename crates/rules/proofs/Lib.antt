@@ -9,3 +9,5 @@ pub mod Passed
 pub mod Header
 pub mod Commands
 pub mod Searches
+-- the user's demands as theorems over the definitions
+pub mod demands

@@ -1,0 +1,159 @@
+-- Lists of write calls (01, The record and the writer): two lists have written the same octets exactly when the
+-- meanings of their accepted drafts are the same; the output after the calls is what they wrote and then what was there.
+use mathlib.Core.Path.{_≡_, refl, sym, ap, _∙_}
+use mathlib.Core.Bool.{true, not}
+use mathlib.Core.Logic.{_↔_}
+use mathlib.Core.List.{List, [], _∷_, _++_, append-assoc}
+use Prim.Native.Nat.{ℕ, _-_, _≤_}
+use native.Mathlib.Omega.{arith}
+use borrow.Author.Tests.{ltb-false, not-false}
+use lib.Dec.{ltb}
+use lib.ListN.{length, take, drop, length-append, length-drop}
+use lib.Seq.{take-at, drop-at, drop-drop, take-append-seam, drop-append-seam}
+use Rattle.rules.specs.declared.Outcome.{Outcome}
+use Rattle.rules.specs.declared.Outcome.the-variants.{Pass, Refused}
+use Rattle.rules.specs.Header.{lengthField, longestCommand}
+use Rattle.rules.specs.Command.{commandOutcome}
+use Rattle.rules.specs.Meaning.{Meaning, meaningOf}
+use Rattle.rules.specs.Writer.{commandOctets, Draft, draftMeaning, isWellFormed, draftOctets, draftOutcome, octetsBy, octetsWritten, writing, outputAfter}
+use Rattle.rules.specs.Calls.{front, rest, allWritten, outputAfterAll, acceptedBy, allAccepted}
+use Rattle.rules.proofs.Passed.{not-refused}
+use Rattle.rules.proofs.demands.octets.Numbers.{number-front}
+use Rattle.rules.proofs.demands.written.Headers.{command-long}
+use Rattle.rules.proofs.demands.written.Writing.{head-written}
+use Rattle.rules.proofs.demands.written.Drafts.{draft-writable, draft-meaning}
+
+-- ---- one call
+
+-- what a call wrote, and what it leaves to the next
+module _ (d : Draft) (out : List ℕ) where
+  pub front-is : front d out ≡ octetsWritten d (length out)
+  unfolding writing outputAfter
+  front-is = take-append-seam (octetsWritten d (length out)) _
+
+  pub rest-is : rest d out ≡ drop (length (octetsWritten d (length out))) out
+  unfolding writing outputAfter
+  rest-is = drop-append-seam (octetsWritten d (length out)) _
+
+-- an accepted draft: none of 7006, 7001, 7004, and the reader accepts its octets
+pub record Accepted (d : Draft) (room : ℕ) : Type 0 where
+  pub form : isWellFormed d ≡ true
+  pub long : length (draftOctets d) ≤ longestCommand
+  pub fits : length (draftOctets d) ≤ room
+  pub pass : commandOutcome (draftOctets d) ≡ Pass
+
+pub accepted : (d : Draft) (room : ℕ) → draftOutcome d room ≡ Pass → Accepted d room
+unfolding draftOutcome
+accepted d room e =
+    let form = not-refused (not (isWellFormed d)) _ _ e in
+    let long = not-refused (ltb longestCommand (length (draftOctets d))) _ _ (form .1) in
+    let fits = not-refused (ltb room (length (draftOctets d))) _ _ (long .1) in
+    record {
+      form = not-false _ (form .0);
+      long = ltb-false _ _ (long .0);
+      fits = ltb-false _ _ (fits .0);
+      pass = fits .1;
+    }
+
+-- what is written fits the room
+written-fits : (d : Draft) (room : ℕ) (o : Outcome) → draftOutcome d room ≡ o
+    → length (octetsBy o (draftOctets d)) ≤ room
+written-fits d room Pass e = accepted d room e .fits
+written-fits d room (Refused v) e = omega arith
+
+pub room-enough : (d : Draft) (room : ℕ) → length (octetsWritten d room) ≤ room
+unfolding octetsWritten
+room-enough d room = written-fits d room (draftOutcome d room) refl
+
+-- ---- commands end to end
+
+-- a meaning that its octets give back, with a length field that cuts them off
+pub record Readable (m : Meaning) : Type 0 where
+  pub back : meaningOf (commandOctets m) ≡ m
+  pub cut : lengthField (commandOctets m) ≡ length (commandOctets m)
+
+readable : (d : Draft) (room : ℕ) → Accepted d room → Readable (draftMeaning d)
+readable d room a = record {
+  back = draft-meaning d (a .form) (a .long) (a .pass);
+  cut = head-written (draftMeaning d) (draft-writable d (a .form) (a .long)) .length-is;
+}
+
+abbrev joined : List Meaning → List ℕ
+joined [] = []
+joined (m ∷ ms) = commandOctets m ++ joined ms
+
+abbrev AllReadable : List Meaning → Type 0
+AllReadable [] = Unit {0}
+AllReadable (m ∷ ms) = Readable m × AllReadable ms
+
+-- the length field of the first command
+first-cut : (m : Meaning) (x : List ℕ) → Readable m → lengthField (commandOctets m ++ x) ≡ length (commandOctets m)
+first-cut m x r =
+    let l = command-long m in
+    number-front 3 (commandOctets m) x 1 (omega arith) ∙ r .cut
+
+first-some : (m : Meaning) (x : List ℕ) → 20 ≤ length (commandOctets m ++ x)
+first-some m x =
+    let l = command-long m in
+    let a = length-append (commandOctets m) x in
+    omega arith
+
+cut-two : (x y x′ y′ : List ℕ) → x ++ y ≡ x′ ++ y′ → length x ≡ length x′ → (x ≡ x′) × (y ≡ y′)
+cut-two x y x′ y′ e l = (
+  sym (take-at x y (length x) refl) ∙ ap (take (length x)) e ∙ take-at x′ y′ (length x) (sym l),
+  sym (drop-at x y (length x) refl) ∙ ap (drop (length x)) e ∙ drop-at x′ y′ (length x) (sym l),
+)
+
+joined-same : (ms ns : List Meaning) → AllReadable ms → AllReadable ns → joined ms ≡ joined ns → ms ≡ ns
+joined-same [] [] g h e = refl
+joined-same [] (n ∷ ns) g h e = absurd (omega (arith, first-some n (joined ns), ap length e))
+joined-same (m ∷ ms) [] g h e = absurd (omega (arith, first-some m (joined ms), ap length e))
+joined-same (m ∷ ms) (n ∷ ns) g h e =
+    let l : length (commandOctets m) ≡ length (commandOctets n) =
+    sym (first-cut m (joined ms) (g .0)) ∙ ap lengthField e ∙ first-cut n (joined ns) (h .0) in
+    let c = cut-two (commandOctets m) (joined ms) (commandOctets n) (joined ns) e l in
+    let a : m ≡ n = sym (g .0 .back) ∙ ap meaningOf (c .0) ∙ h .0 .back in
+    rw (a, joined-same ms ns (g .1) (h .1) (c .1))
+
+-- ---- lists of calls
+
+-- the octets of the accepted meanings, end to end, are what was written
+abbrev Told : List ℕ → List Meaning → Type 0
+Told x ms = (x ≡ joined ms) × AllReadable ms
+
+one-call : (d : Draft) (room : ℕ) (o : Outcome) → draftOutcome d room ≡ o → (x : List ℕ) (ms : List Meaning) → Told x ms
+    → Told (octetsBy o (draftOctets d) ++ x) (acceptedBy o d ++ ms)
+one-call d room Pass e x ms t = (rw (t .0), (readable d room (accepted d room e), t .1))
+one-call d room (Refused v) e x ms t = t
+
+calls : (ds : List Draft) (out : List ℕ) → Told (allWritten ds out) (allAccepted ds out)
+unfolding allWritten allAccepted octetsWritten
+calls [] out = (refl, tt)
+calls (d ∷ ds) out =
+    let t = one-call d (length out) (draftOutcome d (length out)) refl _ _ (calls ds (rest d out)) in
+    (ap (λ (x : List ℕ). x ++ allWritten ds (rest d out)) (front-is d out) ∙ t .0, t .1)
+
+-- demand 3, the two lists of write calls
+pub same-written : (ds es : List Draft) (out out′ : List ℕ)
+    → (allWritten ds out ≡ allWritten es out′) ↔ (allAccepted ds out ≡ allAccepted es out′)
+same-written ds es out out′ =
+    let c = calls ds out in
+    let k = calls es out′ in
+    (λ e. joined-same _ _ (c .1) (k .1) (sym (c .0) ∙ e ∙ k .0), λ e. c .0 ∙ ap joined e ∙ sym (k .0))
+
+-- ---- the output after the calls
+
+pub output-is : (ds : List Draft) (out : List ℕ)
+    → (outputAfterAll ds out ≡ allWritten ds out ++ drop (length (allWritten ds out)) out)
+    × (length (outputAfterAll ds out) ≡ length out)
+unfolding allWritten outputAfterAll
+output-is [] out = (refl, refl)
+output-is (d ∷ ds) out =
+    let w = octetsWritten d (length out) in
+    let ih = output-is ds (rest d out) in
+    let r = room-enough d (length out) in
+    let q = rest-is d out in
+    let l : length (rest d out) ≡ length out - length w = ap length q ∙ length-drop (length w) out in (
+      rw (ih .0, front-is d out) (simp (append-assoc, length-append, q, drop-drop)),
+      rw (front-is d out) (length-append w _ ∙ omega (arith, ih .1)),
+    )
