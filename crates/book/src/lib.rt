@@ -9,6 +9,7 @@ ghost use Rattle.rules.specs.Command.{commandVerdict};
 ghost use Rattle.rules.specs.Book.{decimal, spaced, newline, commandLine, cutLine, endLine, isCut, isBook, commandIn, acceptance};
 ghost use Rattle.book.specs.Promise.{Listed, Put, PutWithin, Ready, linesOf, room};
 use rules::Verdict;
+use rules::limits;
 
 fn put_octet(out: &mut [u8; 262144], at: usize, octet: u8) -> usize
     requires { ⌜ at < room ⌝ }
@@ -126,7 +127,7 @@ fn is_cut(book: &[u8], offset: usize) -> bool
 }
 
 // The verdict on the command at an offset, which is cut by its length field alone.
-fn verdict_at(book: &[u8], offset: usize, log: &mut [u32; 1792]) -> Verdict
+fn verdict_at(book: &[u8], offset: usize, log: &mut [u32; limits::LOG_NUMBERS]) -> Verdict
     requires { ⌜ (offset < length (now book)) × (isCut (now book) offset ≡ false) ⌝ }
     ensures { λ r. ⌜ r ≡ commandVerdict (commandIn (now (book .entry)) offset) ⌝ }
 {
@@ -144,7 +145,12 @@ fn acceptance_of(v: Verdict) -> u32
 }
 
 // The lines behind the head line: one for each command, then `end` or a cut.
-fn put_lines(book: &[u8], out: &mut [u8; 262144], start: usize, log: &mut [u32; 1792]) -> usize
+fn put_lines(
+    book: &[u8],
+    out: &mut [u8; 262144],
+    start: usize,
+    log: &mut [u32; limits::LOG_NUMBERS],
+) -> usize
     requires { ⌜ Ready (now book) start ⌝ }
     ensures { λ r. ⌜ PutWithin (room - 6) (now (out .entry)) start (linesOf (now (book .entry))) r (now (out .exit)) ⌝ }
 {
@@ -186,7 +192,7 @@ pub fn listing(book: &[u8], out: &mut [u8; 262144]) -> usize
     ensures { λ r. ⌜ Listed (now (book .entry)) (now (out .entry)) r (now (out .exit)) ⌝ }
 {
     if is_book(book) {
-        let mut log = [0u32; 1792];
+        let mut log = [0u32; limits::LOG_NUMBERS];
         let start = put_word(out, 0, b"NTB 1\n");
         return put_lines(book, out, start, &mut log);
     }

@@ -7,6 +7,7 @@ ghost use Rattle.boundary.specs.Parts.{IsRead, IsData, searchNumbers};
 ghost use Rattle.boundary.specs.Writes.{IsWrittenFrom};
 use rules::Verdict;
 use rules::Written;
+use rules::limits;
 
 // A part of a slice, by its start and its length.
 #[repr(C)]
@@ -17,7 +18,7 @@ pub struct Part {
 
 // The verdict of a command, its walk in a lent log.
 #[no_mangle]
-pub extern "C" fn talazumir_verdict(s: &[u8], log: &mut [u32; 1792]) -> Verdict
+pub extern "C" fn talazumir_verdict(s: &[u8], log: &mut [u32; limits::LOG_NUMBERS]) -> Verdict
     ensures { λ r. ⌜ Judged (now (s .entry)) (now (log .entry)) r (now (log .exit)) ⌝ }
 {
     reader::verdict(s, log)
@@ -25,7 +26,7 @@ pub extern "C" fn talazumir_verdict(s: &[u8], log: &mut [u32; 1792]) -> Verdict
 
 // The verdict of a command, and its record as numbers; all 0 with a refusal.
 #[no_mangle]
-pub extern "C" fn talazumir_read(s: &[u8], numbers: &mut [u32; 1799]) -> Verdict
+pub extern "C" fn talazumir_read(s: &[u8], numbers: &mut [u32; limits::RECORD_NUMBERS]) -> Verdict
     ensures { λ r. ⌜ IsRead (now (s .entry)) r (now (numbers .exit)) ⌝ }
 {
     let reading = reader::read(s);
@@ -36,7 +37,11 @@ pub extern "C" fn talazumir_read(s: &[u8], numbers: &mut [u32; 1799]) -> Verdict
 // The part of a slice that is the data of the AVP at a position; the empty part at 0 where the position is unused or the
 // part does not lie in the slice.
 #[no_mangle]
-pub extern "C" fn talazumir_data(numbers: &[u32; 1799], position: usize, s: &[u8]) -> Part
+pub extern "C" fn talazumir_data(
+    numbers: &[u32; limits::RECORD_NUMBERS],
+    position: usize,
+    s: &[u8],
+) -> Part
     ensures { λ r. ⌜ IsData (now (numbers .entry)) position (now (s .entry)) r ⌝ }
 {
     if numbers::used(numbers) <= position {
@@ -59,7 +64,11 @@ pub extern "C" fn talazumir_data(numbers: &[u32; 1799], position: usize, s: &[u8
 
 // The position of the first AVP at depth 1 with a vendor and code, 256 for none.
 #[no_mangle]
-pub extern "C" fn talazumir_search(numbers: &[u32; 1799], vendor: u32, code: u32) -> u32
+pub extern "C" fn talazumir_search(
+    numbers: &[u32; limits::RECORD_NUMBERS],
+    vendor: u32,
+    code: u32,
+) -> u32
     ensures { λ r. ⌜ r ≡ searchNumbers (now (numbers .entry)) vendor code ⌝ }
 {
     let used = numbers::used(numbers);
@@ -75,7 +84,11 @@ pub extern "C" fn talazumir_search(numbers: &[u32; 1799], vendor: u32, code: u32
 
 // Writes the draft whose record the numbers stand for; a flag that is neither 0 nor 1 is 7006.
 #[no_mangle]
-pub extern "C" fn talazumir_write(numbers: &[u32; 1799], s: &[u8], out: &mut [u8]) -> Written
+pub extern "C" fn talazumir_write(
+    numbers: &[u32; limits::RECORD_NUMBERS],
+    s: &[u8],
+    out: &mut [u8],
+) -> Written
     ensures { λ r. ⌜ IsWrittenFrom (now (numbers .entry)) (now (s .entry)) (now (out .entry)) r (now (out .exit)) ⌝ }
 {
     if !numbers::flags_fit(numbers) {

@@ -3,6 +3,7 @@ use crate::notation;
 use crate::octets;
 use crate::print;
 use crate::text;
+use rules::limits;
 
 // What a command starts with: the header of H (01, The book and its listing), with the flags of a BTR or of a BTA, and none
 // or some of the AVPs of S (01, Commands at the edges).
@@ -64,7 +65,7 @@ pub(crate) fn judge(label: &[u8], command: [u8; 16400], length: usize) {
     if 16400 < length {
         return;
     }
-    let mut log = [0u32; 1792];
+    let mut log = [0u32; limits::LOG_NUMBERS];
     let v = reader::verdict(&command[..length], &mut log);
     print::verdict_line(label, v);
 }

@@ -22,9 +22,10 @@ use rules::kinds::ReferenceId;
 use rules::kinds::ResultCode;
 use rules::kinds::TimeWindow;
 use rules::kinds::TransferPolicy;
+use rules::limits;
 
 // Result-Code or Experimental-Result, and not both.
-fn result_outcome(log: &[u32; 1792], count: usize, end: u32) -> Outcome
+fn result_outcome(log: &[u32; limits::LOG_NUMBERS], count: usize, end: u32) -> Outcome
     requires { ⌜ count ≤ 256 ⌝ }
     ensures { λ r. ⌜ r ≡ resultOutcome (avpsIn (now (log .entry)) count) end ⌝ }
 {
@@ -43,7 +44,7 @@ fn result_outcome(log: &[u32; 1792], count: usize, end: u32) -> Outcome
 }
 
 // With any policy a Reference-Id, with two or more a PCRF-Address.
-fn policies_outcome(log: &[u32; 1792], count: usize, end: u32) -> Outcome
+fn policies_outcome(log: &[u32; limits::LOG_NUMBERS], count: usize, end: u32) -> Outcome
     requires { ⌜ count ≤ 256 ⌝ }
     ensures { λ r. ⌜ r ≡ policiesOutcome (avpsIn (now (log .entry)) count) end ⌝ }
 {
@@ -69,7 +70,7 @@ fn policies_outcome(log: &[u32; 1792], count: usize, end: u32) -> Outcome
 }
 
 // An AVP that the policy at a position must hold.
-fn held(log: &[u32; 1792], i: usize, count: usize, vendor: u32, code: u32) -> Outcome
+fn held(log: &[u32; limits::LOG_NUMBERS], i: usize, count: usize, vendor: u32, code: u32) -> Outcome
     requires { ⌜ Position i count ⌝ }
     ensures { λ r. ⌜ r ≡ heldBy (avpsIn (now (log .entry)) count) i vendor code ⌝ }
 {
@@ -79,7 +80,7 @@ fn held(log: &[u32; 1792], i: usize, count: usize, vendor: u32, code: u32) -> Ou
     Outcome::Pass
 }
 
-fn policy_outcome(log: &[u32; 1792], i: usize, count: usize) -> Outcome
+fn policy_outcome(log: &[u32; limits::LOG_NUMBERS], i: usize, count: usize) -> Outcome
     requires { ⌜ Position i count ⌝ }
     ensures { λ r. ⌜ r ≡ policyOutcome (avpsIn (now (log .entry)) count) i ⌝ }
 {
@@ -91,7 +92,7 @@ fn policy_outcome(log: &[u32; 1792], i: usize, count: usize) -> Outcome
 }
 
 // What is said at a position: of a policy of the command's own list its outcome.
-fn policy_at(log: &[u32; 1792], i: usize, count: usize) -> Outcome
+fn policy_at(log: &[u32; limits::LOG_NUMBERS], i: usize, count: usize) -> Outcome
     requires { ⌜ Position i count ⌝ }
     ensures { λ r. ⌜ r ≡ policyAt (avpsIn (now (log .entry)) count) i (avpOf (now (log .entry)) i) ⌝ }
 {
@@ -101,7 +102,7 @@ fn policy_at(log: &[u32; 1792], i: usize, count: usize) -> Outcome
     Outcome::Pass
 }
 
-fn each_policy(log: &[u32; 1792], count: usize) -> Outcome
+fn each_policy(log: &[u32; limits::LOG_NUMBERS], count: usize) -> Outcome
     requires { ⌜ count ≤ 256 ⌝ }
     ensures { λ r. ⌜ r ≡ eachPolicy (avpsIn (now (log .entry)) count) 0 (avpsIn (now (log .entry)) count) ⌝ }
 {
@@ -116,7 +117,7 @@ fn each_policy(log: &[u32; 1792], count: usize) -> Outcome
     Outcome::Pass
 }
 
-pub(crate) fn answer_outcome(log: &[u32; 1792], count: usize, end: u32) -> Outcome
+pub(crate) fn answer_outcome(log: &[u32; limits::LOG_NUMBERS], count: usize, end: u32) -> Outcome
     requires { ⌜ count ≤ 256 ⌝ }
     ensures { λ r. ⌜ r ≡ answerOutcome (avpsIn (now (log .entry)) count) end ⌝ }
 {

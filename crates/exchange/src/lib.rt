@@ -6,6 +6,7 @@ ghost use Rattle.rules.specs.Exchange.{exchangeOutcome};
 ghost use Rattle.log.specs.Log.{avpsIn};
 ghost use Rattle.rules.specs.Exchange.{byCommand};
 use rules::Outcome;
+use rules::limits;
 
 mod answer;
 mod request;
@@ -13,7 +14,13 @@ mod search;
 mod window;
 
 // The rules of a request or of an answer.
-fn by_command(request: bool, s: &[u8], log: &[u32; 1792], count: usize, end: u32) -> Outcome
+fn by_command(
+    request: bool,
+    s: &[u8],
+    log: &[u32; limits::LOG_NUMBERS],
+    count: usize,
+    end: u32,
+) -> Outcome
     requires { ⌜ count ≤ 256 ⌝ }
     ensures { λ r. ⌜ r ≡ byCommand request (avpsIn (now (log .entry)) count) (now (s .entry)) end ⌝ }
 {
@@ -24,7 +31,13 @@ fn by_command(request: bool, s: &[u8], log: &[u32; 1792], count: usize, end: u32
 }
 
 // What the exchange rules say of the command `s`, whose own list ends at `end` and whose walk is in the log.
-pub fn judge(request: bool, s: &[u8], log: &[u32; 1792], count: usize, end: u32) -> Outcome
+pub fn judge(
+    request: bool,
+    s: &[u8],
+    log: &[u32; limits::LOG_NUMBERS],
+    count: usize,
+    end: u32,
+) -> Outcome
     ensures { λ r. ⌜ r ≡ exchangeOutcome request (avpsIn (now (log .entry)) count) (now (s .entry)) end ⌝ }
 {
     let avps = log::used(count);

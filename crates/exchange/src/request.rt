@@ -19,9 +19,10 @@ use rules::kinds::ReferenceId;
 use rules::kinds::TimeWindow;
 use rules::kinds::TransferPolicyId;
 use rules::kinds::TransferRequestType;
+use rules::limits;
 
 // One of three is enough; where none is there, CC-Output-Octets is missing.
-fn volume(log: &[u32; 1792], count: usize, end: u32) -> Outcome
+fn volume(log: &[u32; limits::LOG_NUMBERS], count: usize, end: u32) -> Outcome
     requires { ⌜ count ≤ 256 ⌝ }
     ensures { λ r. ⌜ r ≡ volumeOf (avpsIn (now (log .entry)) count) end ⌝ }
 {
@@ -43,7 +44,7 @@ fn volume(log: &[u32; 1792], count: usize, end: u32) -> Outcome
 }
 
 // Transfer-Request-Type 0: the first request of a transfer.
-fn first_request(log: &[u32; 1792], count: usize, end: u32) -> Outcome
+fn first_request(log: &[u32; limits::LOG_NUMBERS], count: usize, end: u32) -> Outcome
     requires { ⌜ count ≤ 256 ⌝ }
     ensures { λ r. ⌜ r ≡ firstRequest (avpsIn (now (log .entry)) count) end ⌝ }
 {
@@ -69,7 +70,7 @@ fn first_request(log: &[u32; 1792], count: usize, end: u32) -> Outcome
 }
 
 // Transfer-Request-Type 1: the policy is chosen.
-fn later_request(log: &[u32; 1792], count: usize, end: u32) -> Outcome
+fn later_request(log: &[u32; limits::LOG_NUMBERS], count: usize, end: u32) -> Outcome
     requires { ⌜ count ≤ 256 ⌝ }
     ensures { λ r. ⌜ r ≡ laterRequest (avpsIn (now (log .entry)) count) end ⌝ }
 {
@@ -96,7 +97,7 @@ fn later_request(log: &[u32; 1792], count: usize, end: u32) -> Outcome
     )
 }
 
-fn by_request_type(log: &[u32; 1792], count: usize, end: u32, value: u32) -> Outcome
+fn by_request_type(log: &[u32; limits::LOG_NUMBERS], count: usize, end: u32, value: u32) -> Outcome
     requires { ⌜ count ≤ 256 ⌝ }
     ensures { λ r. ⌜ r ≡ byRequestType (avpsIn (now (log .entry)) count) end value ⌝ }
 {
@@ -109,7 +110,12 @@ fn by_request_type(log: &[u32; 1792], count: usize, end: u32, value: u32) -> Out
     Outcome::Pass
 }
 
-pub(crate) fn request_outcome(s: &[u8], log: &[u32; 1792], count: usize, end: u32) -> Outcome
+pub(crate) fn request_outcome(
+    s: &[u8],
+    log: &[u32; limits::LOG_NUMBERS],
+    count: usize,
+    end: u32,
+) -> Outcome
     requires { ⌜ count ≤ 256 ⌝ }
     ensures { λ r. ⌜ r ≡ requestOutcome (avpsIn (now (log .entry)) count) (now (s .entry)) end ⌝ }
 {

@@ -13,6 +13,7 @@ ghost use Rattle.exchange.specs.Positions.{Position, IsFound};
 use avp::refusal;
 use rules::Found;
 use rules::Outcome;
+use rules::limits;
 
 pub(crate) fn wide(x: u32) -> usize
     ensures { λ r. ⌜ IsNumber 4 x r ⌝ }
@@ -21,7 +22,13 @@ pub(crate) fn wide(x: u32) -> usize
 }
 
 // Whether the AVP at a position stands at a depth with a vendor and code.
-pub(crate) fn is_at(log: &[u32; 1792], i: usize, depth: usize, vendor: u32, code: u32) -> bool
+pub(crate) fn is_at(
+    log: &[u32; limits::LOG_NUMBERS],
+    i: usize,
+    depth: usize,
+    vendor: u32,
+    code: u32,
+) -> bool
     ensures { λ r. ⌜ r ≡ isAt (avpOf (now (log .entry)) i) depth vendor code ⌝ }
 {
     if log::is_named(log, i, vendor, code) {
@@ -32,7 +39,7 @@ pub(crate) fn is_at(log: &[u32; 1792], i: usize, depth: usize, vendor: u32, code
 
 // The first AVP from a position on at a depth with a vendor and code, before any AVP above the depth `floor`.
 pub(crate) fn first(
-    log: &[u32; 1792],
+    log: &[u32; limits::LOG_NUMBERS],
     from: usize,
     count: usize,
     floor: usize,
@@ -57,7 +64,12 @@ pub(crate) fn first(
 }
 
 // The first AVP of the command's own list with a vendor and code.
-pub(crate) fn search(log: &[u32; 1792], count: usize, vendor: u32, code: u32) -> Found
+pub(crate) fn search(
+    log: &[u32; limits::LOG_NUMBERS],
+    count: usize,
+    vendor: u32,
+    code: u32,
+) -> Found
     requires { ⌜ count ≤ 256 ⌝ }
     ensures { λ r. ⌜ IsFound (searched (avpsIn (now (log .entry)) count) vendor code) count r ⌝ }
 {
@@ -66,7 +78,7 @@ pub(crate) fn search(log: &[u32; 1792], count: usize, vendor: u32, code: u32) ->
 
 // The first member with a vendor and code of the group at a position, whose members stand at this depth.
 pub(crate) fn member(
-    log: &[u32; 1792],
+    log: &[u32; limits::LOG_NUMBERS],
     i: usize,
     count: usize,
     depth: usize,
@@ -80,7 +92,13 @@ pub(crate) fn member(
 }
 
 // An AVP that the command's own list must have; `end` is the list's end.
-pub(crate) fn require(log: &[u32; 1792], count: usize, end: u32, vendor: u32, code: u32) -> Outcome
+pub(crate) fn require(
+    log: &[u32; limits::LOG_NUMBERS],
+    count: usize,
+    end: u32,
+    vendor: u32,
+    code: u32,
+) -> Outcome
     requires { ⌜ count ≤ 256 ⌝ }
     ensures { λ r. ⌜ r ≡ requireIn (avpsIn (now (log .entry)) count) end vendor code ⌝ }
 {
@@ -91,7 +109,7 @@ pub(crate) fn require(log: &[u32; 1792], count: usize, end: u32, vendor: u32, co
 }
 
 // The end of the data of the AVP at a position.
-pub(crate) fn end_at(log: &[u32; 1792], i: usize, count: usize) -> u32
+pub(crate) fn end_at(log: &[u32; limits::LOG_NUMBERS], i: usize, count: usize) -> u32
     requires { ⌜ Position i count ⌝ }
     ensures { λ r. ⌜ r ≡ endOf (avpIn (avpsIn (now (log .entry)) count) i) ⌝ }
 {
@@ -99,7 +117,7 @@ pub(crate) fn end_at(log: &[u32; 1792], i: usize, count: usize) -> u32
 }
 
 // The number in the first four octets of the data of the AVP at a position.
-pub(crate) fn number_of(s: &[u8], log: &[u32; 1792], i: usize, count: usize) -> u32
+pub(crate) fn number_of(s: &[u8], log: &[u32; limits::LOG_NUMBERS], i: usize, count: usize) -> u32
     requires { ⌜ Position i count ⌝ }
     ensures { λ r. ⌜ r ≡ numberAt 4 (now (s .entry)) (avpIn (avpsIn (now (log .entry)) count) i .start) ⌝ }
 {

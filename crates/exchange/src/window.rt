@@ -16,6 +16,7 @@ use rules::Outcome;
 use rules::kinds::TimeWindow;
 use rules::kinds::TransferEndTime;
 use rules::kinds::TransferStartTime;
+use rules::limits;
 
 // The order of two times.
 fn is_before(start: u32, end: u32) -> bool
@@ -25,7 +26,13 @@ fn is_before(start: u32, end: u32) -> bool
 }
 
 // A window by the positions of its start and end: the end is greater than the start.
-fn times_by(s: &[u8], log: &[u32; 1792], start: usize, end: usize, count: usize) -> Outcome
+fn times_by(
+    s: &[u8],
+    log: &[u32; limits::LOG_NUMBERS],
+    start: usize,
+    end: usize,
+    count: usize,
+) -> Outcome
     requires start { ⌜ Position start count ⌝ }
     requires end { ⌜ Position end count ⌝ }
     ensures { λ r. ⌜ r ≡ timesBy (avpsIn (now (log .entry)) count) (now (s .entry)) start end ⌝ }
@@ -40,7 +47,13 @@ fn times_by(s: &[u8], log: &[u32; 1792], start: usize, end: usize, count: usize)
 }
 
 // The window at a position, whose members stand at this depth.
-fn window_outcome(s: &[u8], log: &[u32; 1792], i: usize, count: usize, depth: usize) -> Outcome
+fn window_outcome(
+    s: &[u8],
+    log: &[u32; limits::LOG_NUMBERS],
+    i: usize,
+    count: usize,
+    depth: usize,
+) -> Outcome
     requires { ⌜ Position i count ⌝ }
     ensures { λ r. ⌜ r ≡ windowOutcome (avpsIn (now (log .entry)) count) (now (s .entry)) i depth ⌝ }
 {
@@ -78,7 +91,7 @@ fn window_outcome(s: &[u8], log: &[u32; 1792], i: usize, count: usize, depth: us
 }
 
 // What is said at a position: of a window its outcome.
-fn window_at(s: &[u8], log: &[u32; 1792], i: usize, count: usize) -> Outcome
+fn window_at(s: &[u8], log: &[u32; limits::LOG_NUMBERS], i: usize, count: usize) -> Outcome
     requires { ⌜ Position i count ⌝ }
     ensures { λ r. ⌜ r ≡ windowAt (avpsIn (now (log .entry)) count) (now (s .entry)) i (avpOf (now (log .entry)) i) ⌝ }
 {
@@ -88,7 +101,7 @@ fn window_at(s: &[u8], log: &[u32; 1792], i: usize, count: usize) -> Outcome
     Outcome::Pass
 }
 
-pub(crate) fn each_window(s: &[u8], log: &[u32; 1792], count: usize) -> Outcome
+pub(crate) fn each_window(s: &[u8], log: &[u32; limits::LOG_NUMBERS], count: usize) -> Outcome
     requires { ⌜ count ≤ 256 ⌝ }
     ensures { λ r. ⌜ r ≡ eachWindow (avpsIn (now (log .entry)) count) (now (s .entry)) 0 (avpsIn (now (log .entry)) count) ⌝ }
 {

@@ -6,6 +6,7 @@ ghost use lib.ListN.{length};
 ghost use Rattle.rules.specs.Avp.{endOf, named};
 ghost use Rattle.log.specs.Log.{bit, putAvp, avpOf};
 use rules::Avp;
+use rules::limits;
 
 // A flag as a number.
 pub fn bit_of(flag: bool) -> u32
@@ -35,7 +36,7 @@ pub fn length(numbers: &[u32]) -> usize
 }
 
 // The numbers of a log. A proof takes from here that what a log holds is as long as its type says.
-pub fn size(log: &[u32; 1792]) -> usize
+pub fn size(log: &[u32; limits::LOG_NUMBERS]) -> usize
     ensures { λ r. ⌜ (r ≡ 1792) × (length (now (log .entry)) ≡ 1792) ⌝ }
 {
     length(log)
@@ -52,7 +53,7 @@ pub fn used(count: usize) -> usize
 }
 
 // Keeps an AVP at a position. A position from 256 on, or data whose end does not fit four octets, leaves the log as it was.
-pub fn put(log: &mut [u32; 1792], position: usize, a: Avp)
+pub fn put(log: &mut [u32; limits::LOG_NUMBERS], position: usize, a: Avp)
     ensures { λ _. ⌜ now (log .exit) ≡ putAvp (now (log .entry)) position a ⌝ }
 {
     if 256 <= position {
@@ -72,7 +73,7 @@ pub fn put(log: &mut [u32; 1792], position: usize, a: Avp)
 }
 
 // The AVP at a position, the blank one from 256 on.
-pub fn get(log: &[u32; 1792], position: usize) -> Avp
+pub fn get(log: &[u32; limits::LOG_NUMBERS], position: usize) -> Avp
     ensures { λ r. ⌜ r ≡ avpOf (now (log .entry)) position ⌝ }
 {
     if 256 <= position {
@@ -91,7 +92,7 @@ pub fn get(log: &[u32; 1792], position: usize) -> Avp
 }
 
 // Where the data of the AVP at a position ends, 0 from 256 on.
-pub fn data_end(log: &[u32; 1792], position: usize) -> u32
+pub fn data_end(log: &[u32; limits::LOG_NUMBERS], position: usize) -> u32
     ensures { λ r. ⌜ r ≡ endOf (avpOf (now (log .entry)) position) ⌝ }
 {
     if 256 <= position {
@@ -107,7 +108,7 @@ pub fn data_end(log: &[u32; 1792], position: usize) -> u32
 }
 
 // The depth of the AVP at a position, 0 from 256 on.
-pub fn depth_at(log: &[u32; 1792], position: usize) -> u32
+pub fn depth_at(log: &[u32; limits::LOG_NUMBERS], position: usize) -> u32
     ensures { λ r. ⌜ r ≡ avpOf (now (log .entry)) position .depth ⌝ }
 {
     if 256 <= position {
@@ -117,7 +118,7 @@ pub fn depth_at(log: &[u32; 1792], position: usize) -> u32
 }
 
 // Whether the AVP at a position has a vendor and code. A search asks this first, and reads no more of an AVP of another name.
-pub fn is_named(log: &[u32; 1792], position: usize, vendor: u32, code: u32) -> bool
+pub fn is_named(log: &[u32; limits::LOG_NUMBERS], position: usize, vendor: u32, code: u32) -> bool
     ensures { λ r. ⌜ r ≡ named (avpOf (now (log .entry)) position) vendor code ⌝ }
 {
     if 256 <= position {

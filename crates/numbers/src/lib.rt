@@ -20,13 +20,13 @@ pub struct Head {
 }
 
 // A proof takes from here that what the array holds is as long as its type says.
-fn size(numbers: &[u32; 1799]) -> usize
+fn size(numbers: &[u32; limits::RECORD_NUMBERS]) -> usize
     ensures { λ r. ⌜ (r ≡ 1799) × (length (now (numbers .entry)) ≡ 1799) ⌝ }
 {
     log::length(numbers)
 }
 
-fn put_head(numbers: &mut [u32; 1799], record: Record)
+fn put_head(numbers: &mut [u32; limits::RECORD_NUMBERS], record: Record)
     ensures { λ _. ⌜ now (numbers .exit) ≡ sets (now (numbers .entry)) 0 (headNumbers «record») ⌝ }
 {
     numbers[0] = log::bit_of(record.r);
@@ -38,7 +38,7 @@ fn put_head(numbers: &mut [u32; 1799], record: Record)
     numbers[6] = record.count;
 }
 
-fn put_avp(numbers: &mut [u32; 1799], position: usize, a: Avp)
+fn put_avp(numbers: &mut [u32; limits::RECORD_NUMBERS], position: usize, a: Avp)
     requires { ⌜ position < 256 ⌝ }
     ensures { λ _. ⌜ now (numbers .exit) ≡ sets (now (numbers .entry)) (position * 7 + 7) (avpNumbers a) ⌝ }
 {
@@ -52,7 +52,7 @@ fn put_avp(numbers: &mut [u32; 1799], position: usize, a: Avp)
     numbers[at + 6] = a.length;
 }
 
-pub fn put(numbers: &mut [u32; 1799], record: Record)
+pub fn put(numbers: &mut [u32; limits::RECORD_NUMBERS], record: Record)
     ensures { λ _. ⌜ now (numbers .exit) ≡ numbersOf «record» ⌝ }
 {
     size(numbers);
@@ -71,21 +71,21 @@ fn wide(x: u32) -> usize
 }
 
 // The count as it stands.
-pub fn count(numbers: &[u32; 1799]) -> usize
+pub fn count(numbers: &[u32; limits::RECORD_NUMBERS]) -> usize
     ensures { λ r. ⌜ r ≡ countOf (now (numbers .entry)) ⌝ }
 {
     wide(numbers[6])
 }
 
 // How many positions are used; a count above 256 is read as 256.
-pub fn used(numbers: &[u32; 1799]) -> usize
+pub fn used(numbers: &[u32; limits::RECORD_NUMBERS]) -> usize
     ensures { λ r. ⌜ r ≡ min (countOf (now (numbers .entry))) 256 ⌝ }
 {
     log::used(count(numbers))
 }
 
 // The AVP at a position, the blank one from 256 on.
-pub fn get(numbers: &[u32; 1799], position: usize) -> Avp
+pub fn get(numbers: &[u32; limits::RECORD_NUMBERS], position: usize) -> Avp
     ensures { λ r. ⌜ r ≡ avpAt (now (numbers .entry)) position ⌝ }
 {
     size(numbers);
@@ -105,7 +105,7 @@ pub fn get(numbers: &[u32; 1799], position: usize) -> Avp
 }
 
 // The command's flags and identifiers.
-pub fn head_of(numbers: &[u32; 1799]) -> Head
+pub fn head_of(numbers: &[u32; limits::RECORD_NUMBERS]) -> Head
     ensures { λ r. ⌜ r ≡ headOf (recordOf (now (numbers .entry))) ⌝ }
 {
     Head {
@@ -118,7 +118,7 @@ pub fn head_of(numbers: &[u32; 1799]) -> Head
     }
 }
 
-fn head_flags_fit(numbers: &[u32; 1799]) -> bool
+fn head_flags_fit(numbers: &[u32; limits::RECORD_NUMBERS]) -> bool
     ensures { λ r. ⌜ r ≡ headFlagsFit (now (numbers .entry)) ⌝ }
 {
     if 1 < numbers[0] {
@@ -133,7 +133,7 @@ fn head_flags_fit(numbers: &[u32; 1799]) -> bool
     numbers[3] <= 1
 }
 
-fn avp_flags_fit(numbers: &[u32; 1799], position: usize) -> bool
+fn avp_flags_fit(numbers: &[u32; limits::RECORD_NUMBERS], position: usize) -> bool
     requires { ⌜ position < 256 ⌝ }
     ensures { λ r. ⌜ r ≡ avpFlagsFit (now (numbers .entry)) position ⌝ }
 {
@@ -145,7 +145,7 @@ fn avp_flags_fit(numbers: &[u32; 1799], position: usize) -> bool
 }
 
 // Whether each flag is 0 or 1.
-pub fn flags_fit(numbers: &[u32; 1799]) -> bool
+pub fn flags_fit(numbers: &[u32; limits::RECORD_NUMBERS]) -> bool
     ensures { λ r. ⌜ r ≡ flagsFit (now (numbers .entry)) ⌝ }
 {
     if !head_flags_fit(numbers) {

@@ -9,6 +9,7 @@ use crate::Judgement;
 use crate::header;
 use rules::Grammar;
 use rules::Outcome;
+use rules::limits;
 use walk::Walk;
 
 // The rows of a command go by R.
@@ -23,7 +24,7 @@ fn command_grammar(flags: u8) -> Grammar
 }
 
 // Rows and exchange rules over the AVPs of a log.
-fn lists_outcome(s: &[u8], log: &[u32; 1792], count: usize) -> Outcome
+fn lists_outcome(s: &[u8], log: &[u32; limits::LOG_NUMBERS], count: usize) -> Outcome
     requires { ⌜ (20 ≤ length (now s)) × (length (now s) ≤ 16384) ⌝ }
     ensures { λ r. ⌜ r ≡ listsOutcome (now (s .entry)) (avpsIn (now (log .entry)) count) ⌝ }
 {
@@ -38,7 +39,7 @@ fn lists_outcome(s: &[u8], log: &[u32; 1792], count: usize) -> Outcome
 }
 
 // A command judged into a lent log.
-pub(crate) fn judge(s: &[u8], log: &mut [u32; 1792]) -> Judgement
+pub(crate) fn judge(s: &[u8], log: &mut [u32; limits::LOG_NUMBERS]) -> Judgement
     ensures { λ r. ⌜ IsJudged (now (s .entry)) (now (log .entry)) r (now (log .exit)) ⌝ }
 {
     let header = header::header_outcome(s);

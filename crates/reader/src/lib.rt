@@ -6,6 +6,7 @@ ghost use Rattle.reader.specs.Promise.{Settled, Judged};
 use rules::Outcome;
 use rules::Reading;
 use rules::Verdict;
+use rules::limits;
 
 mod header;
 mod judge;
@@ -34,7 +35,7 @@ pub fn accepted() -> Verdict
 }
 
 // The outcome of a command's checks. The lent log is written anew from position 0 on.
-pub fn outcome(s: &[u8], log: &mut [u32; 1792]) -> Outcome
+pub fn outcome(s: &[u8], log: &mut [u32; limits::LOG_NUMBERS]) -> Outcome
     ensures { λ r. ⌜ Settled (now (s .entry)) (now (log .entry)) r (now (log .exit)) ⌝ }
 {
     let judged = judge::judge(s, log);
@@ -42,7 +43,7 @@ pub fn outcome(s: &[u8], log: &mut [u32; 1792]) -> Outcome
 }
 
 // The verdict of a command. The lent log is written anew from position 0 on, and makes a record needless.
-pub fn verdict(s: &[u8], log: &mut [u32; 1792]) -> Verdict
+pub fn verdict(s: &[u8], log: &mut [u32; limits::LOG_NUMBERS]) -> Verdict
     ensures { λ r. ⌜ Judged (now (s .entry)) (now (log .entry)) r (now (log .exit)) ⌝ }
 {
     let outcome = outcome(s, log);
@@ -56,7 +57,7 @@ pub fn verdict(s: &[u8], log: &mut [u32; 1792]) -> Verdict
 pub fn read(s: &[u8]) -> Reading
     ensures { λ r. ⌜ r ≡ reading (now (s .entry)) ⌝ }
 {
-    let mut log = [0u32; 1792];
+    let mut log = [0u32; limits::LOG_NUMBERS];
     let judged = judge::judge(s, &mut log);
     let outcome = judged.outcome;
     let count = judged.count;

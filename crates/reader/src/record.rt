@@ -22,7 +22,7 @@ fn blank_avps() -> [Avp; 256]
 }
 
 // The AVPs of a log in room for 256.
-fn avps_of(log: &[u32; 1792], count: usize) -> [Avp; 256]
+fn avps_of(log: &[u32; limits::LOG_NUMBERS], count: usize) -> [Avp; 256]
     requires { ⌜ count ≤ 256 ⌝ }
     ensures { λ r. ⌜ r ≡ inRoom (avpsIn (now (log .entry)) count) ⌝ }
 {
@@ -52,7 +52,7 @@ pub(crate) fn empty_record() -> Record
 }
 
 // The record of a command whose AVPs stand in a log.
-pub(crate) fn record_of(s: &[u8], log: &[u32; 1792], count: usize) -> Record
+pub(crate) fn record_of(s: &[u8], log: &[u32; limits::LOG_NUMBERS], count: usize) -> Record
     requires { ⌜ (20 ≤ length (now s)) × (count ≤ 256) ⌝ }
     ensures { λ r. ⌜ r ≡ recordOf (now (s .entry)) (avpsIn (now (log .entry)) count) ⌝ }
 {

@@ -15,6 +15,7 @@ use rules::Avp;
 use rules::Grammar;
 use rules::Members;
 use rules::Outcome;
+use rules::limits;
 
 mod admitted;
 mod faults;
@@ -44,7 +45,7 @@ fn without_row(grammar: Grammar, a: Avp) -> Outcome
 // The list at a depth whose members follow from a position on, up to the first AVP above that depth; deeper ones belong to
 // its groups.
 fn list_outcome(
-    log: &[u32; 1792],
+    log: &[u32; limits::LOG_NUMBERS],
     from: usize,
     count: usize,
     grammar: Grammar,
@@ -87,7 +88,7 @@ fn list_outcome(
 }
 
 // The AVP at a position with those after it: where it is a group, its list.
-fn group_outcome(log: &[u32; 1792], position: usize, count: usize) -> Outcome
+fn group_outcome(log: &[u32; limits::LOG_NUMBERS], position: usize, count: usize) -> Outcome
     requires { ⌜ (position < count) × (count ≤ 256) ⌝ }
     ensures { λ r. ⌜ r ≡ groupAt (avpOf (now (log .entry)) position) (drop (position + 1) (avpsIn (now (log .entry)) count)) ⌝ }
 {
@@ -101,7 +102,7 @@ fn group_outcome(log: &[u32; 1792], position: usize, count: usize) -> Outcome
 }
 
 // Each group in walk order.
-fn groups_outcome(log: &[u32; 1792], count: usize) -> Outcome
+fn groups_outcome(log: &[u32; limits::LOG_NUMBERS], count: usize) -> Outcome
     requires { ⌜ count ≤ 256 ⌝ }
     ensures { λ r. ⌜ r ≡ groupsOutcome dictionary (avpsIn (now (log .entry)) count) ⌝ }
 {
@@ -118,7 +119,7 @@ fn groups_outcome(log: &[u32; 1792], count: usize) -> Outcome
 
 // The row checks of a command whose AVPs stand in a log with this count, above 256 read as 256, and whose own list ends at
 // `end`.
-pub fn judge(log: &[u32; 1792], count: usize, grammar: Grammar, end: u32) -> Outcome
+pub fn judge(log: &[u32; limits::LOG_NUMBERS], count: usize, grammar: Grammar, end: u32) -> Outcome
     ensures { λ r. ⌜ r ≡ rowsOutcome dictionary grammar end (avpsIn (now (log .entry)) count) ⌝ }
 {
     let used = log::used(count);

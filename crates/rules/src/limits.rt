@@ -9,3 +9,16 @@ pub const HEADER_SIZE: usize = 20;
 pub const LONGEST_COMMAND: usize = 16384;
 
 pub const MOST_AVPS: usize = 256;
+
+// The numbers that the log keeps of an AVP, and those of a whole log.
+pub const AVP_NUMBERS: usize = 7;
+
+pub const LOG_NUMBERS: usize = 1792;
+
+// The numbers that a record has at the boundary: seven of the command, then seven of each place.
+pub const HEAD_NUMBERS: usize = 7;
+
+pub const RECORD_NUMBERS: usize = 1799;
+
+// The deepest that an AVP stands.
+pub const DEEPEST: u32 = 4;

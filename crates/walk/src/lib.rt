@@ -3,6 +3,7 @@
 ghost use Rattle.walk.specs.Promise.{Ready, AvpWalked, ListWalked, CommandWalked};
 use rules::Checked;
 use rules::Verdict;
+use rules::limits;
 
 mod check;
 mod frame;
@@ -26,7 +27,7 @@ fn walk_avp(
     end: usize,
     depth: u32,
     count: usize,
-    log: &mut [u32; 1792],
+    log: &mut [u32; limits::LOG_NUMBERS],
 ) -> Step
     requires { ⌜ Ready (now s) at end depth count ⌝ }
     ensures { λ r. ⌜ AvpWalked (now (s .entry)) at end depth count (now (log .entry)) r (now (log .exit)) ⌝ }
@@ -72,7 +73,7 @@ fn walk_list(
     end: usize,
     depth: u32,
     count: usize,
-    log: &mut [u32; 1792],
+    log: &mut [u32; limits::LOG_NUMBERS],
 ) -> Walk
     requires { ⌜ Ready (now s) at end depth count ⌝ }
     ensures { λ r. ⌜ ListWalked (now (s .entry)) at end depth count (now (log .entry)) r (now (log .exit)) ⌝ }
@@ -94,7 +95,7 @@ fn walk_list(
 
 // The walk of a command's own list. A command of under 20 octets has no list; one of more than 16,384 is refused as by its
 // header.
-pub fn walk_command(s: &[u8], log: &mut [u32; 1792]) -> Walk
+pub fn walk_command(s: &[u8], log: &mut [u32; limits::LOG_NUMBERS]) -> Walk
     ensures { λ r. ⌜ CommandWalked (now (s .entry)) (now (log .entry)) r (now (log .exit)) ⌝ }
 {
     log::size(log);

@@ -40,7 +40,7 @@ fn is_blank(a: Avp) -> bool
     a.length == 0
 }
 
-fn are_blank(numbers: &[u32; 1799], from: usize) -> bool
+fn are_blank(numbers: &[u32; limits::RECORD_NUMBERS], from: usize) -> bool
     ensures { λ r. ⌜ r ≡ allBlank (drop from (recordOf (now (numbers .entry)) .avps)) ⌝ }
 {
     let mut i = from;
@@ -63,7 +63,7 @@ fn is_placed(a: Avp, size: usize) -> bool
     a.start as usize + a.length as usize <= size
 }
 
-fn are_placed(numbers: &[u32; 1799], size: usize) -> bool
+fn are_placed(numbers: &[u32; limits::RECORD_NUMBERS], size: usize) -> bool
     ensures { λ r. ⌜ r ≡ allPlaced dictionary size (drafted (now (numbers .entry))) ⌝ }
 {
     let used = numbers::used(numbers);
@@ -101,7 +101,7 @@ fn next_depth(a: Avp) -> u32
     a.depth
 }
 
-fn is_tree(numbers: &[u32; 1799]) -> bool
+fn is_tree(numbers: &[u32; limits::RECORD_NUMBERS]) -> bool
     ensures { λ r. ⌜ ((s : List ℕ) → r ≡ isTree 1 dictionary (cells s (drafted (now (numbers .entry))))) ⌝ }
 {
     let used = numbers::used(numbers);
@@ -119,7 +119,7 @@ fn is_tree(numbers: &[u32; 1799]) -> bool
 }
 
 // A read group's length is that of its members with padding.
-fn has_size(numbers: &[u32; 1799], i: usize) -> bool
+fn has_size(numbers: &[u32; limits::RECORD_NUMBERS], i: usize) -> bool
     requires { ⌜ i < 256 ⌝ }
     ensures { λ r. ⌜ HasSize (now (numbers .entry)) i r ⌝ }
 {
@@ -131,7 +131,7 @@ fn has_size(numbers: &[u32; 1799], i: usize) -> bool
     true
 }
 
-fn has_sizes(numbers: &[u32; 1799]) -> bool
+fn has_sizes(numbers: &[u32; limits::RECORD_NUMBERS]) -> bool
     ensures { λ r. ⌜ ((s : List ℕ) → r ≡ hasSizes dictionary (cells s (drafted (now (numbers .entry))))) ⌝ }
 {
     let used = numbers::used(numbers);
@@ -146,7 +146,7 @@ fn has_sizes(numbers: &[u32; 1799]) -> bool
 }
 
 // A draft that is not 7006.
-pub(crate) fn is_well_formed(numbers: &[u32; 1799], s: &[u8]) -> bool
+pub(crate) fn is_well_formed(numbers: &[u32; limits::RECORD_NUMBERS], s: &[u8]) -> bool
     ensures { λ r. ⌜ r ≡ isWellFormed (draftOf (recordOf (now (numbers .entry))) (now (s .entry))) ⌝ }
 {
     numbers::length(numbers);

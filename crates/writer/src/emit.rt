@@ -67,7 +67,7 @@ fn put_avp(out: &mut [u8], at: usize, a: Avp, s: &[u8]) -> usize
 }
 
 // The AVPs of a draft, behind the header.
-fn put_list(out: &mut [u8], numbers: &[u32; 1799], s: &[u8])
+fn put_list(out: &mut [u8], numbers: &[u32; limits::RECORD_NUMBERS], s: &[u8])
     requires { ⌜ CanPutAll (now out) (now numbers) (now s) ⌝ }
     ensures { λ _. ⌜ now (out .exit) ≡ sets (now (out .entry)) 20 (listOf (now (numbers .entry)) (now (s .entry))) ⌝ }
 {
@@ -81,7 +81,7 @@ fn put_list(out: &mut [u8], numbers: &[u32; 1799], s: &[u8])
 }
 
 // The command flags: R, P, E, T; reserved bits are 0.
-fn command_flags(numbers: &[u32; 1799]) -> u8
+fn command_flags(numbers: &[u32; limits::RECORD_NUMBERS]) -> u8
     ensures { λ r. ⌜ ((s : List ℕ) → r ≡ flagsOctet (draftMeaning (draftOf (recordOf (now (numbers .entry))) s))) ⌝ }
 {
     let head = numbers::head_of(numbers);
@@ -89,7 +89,7 @@ fn command_flags(numbers: &[u32; 1799]) -> u8
 }
 
 // Version, length, flags and command code, for a command of this size.
-fn put_start(out: &mut [u8], numbers: &[u32; 1799], size: usize)
+fn put_start(out: &mut [u8], numbers: &[u32; limits::RECORD_NUMBERS], size: usize)
     requires { ⌜ 8 ≤ length (now out) ⌝ }
     ensures { λ _. ⌜ IsStart (now (out .entry)) (now (numbers .entry)) size (now (out .exit)) ⌝ }
 {
@@ -100,7 +100,7 @@ fn put_start(out: &mut [u8], numbers: &[u32; 1799], size: usize)
 }
 
 // Application and identifiers, behind the start.
-fn put_identifiers(out: &mut [u8], numbers: &[u32; 1799])
+fn put_identifiers(out: &mut [u8], numbers: &[u32; limits::RECORD_NUMBERS])
     requires { ⌜ 20 ≤ length (now out) ⌝ }
     ensures { λ _. ⌜ now (out .exit) ≡ identified (now (out .entry)) (recordOf (now (numbers .entry))) ⌝ }
 {
@@ -111,7 +111,12 @@ fn put_identifiers(out: &mut [u8], numbers: &[u32; 1799])
 }
 
 // The command of a draft, of this size.
-pub(crate) fn put_command(out: &mut [u8], numbers: &[u32; 1799], s: &[u8], size: usize)
+pub(crate) fn put_command(
+    out: &mut [u8],
+    numbers: &[u32; limits::RECORD_NUMBERS],
+    s: &[u8],
+    size: usize,
+)
     requires { ⌜ CanPutCommand (now out) (now numbers) (now s) size ⌝ }
     ensures { λ _. ⌜ now (out .exit) ≡ sets (now (out .entry)) 0 (commandOf (now (numbers .entry)) (now (s .entry))) ⌝ }
 {

@@ -31,19 +31,24 @@ pub fn refusal(number: u32) -> Written
 }
 
 // Room for the longest command.
-fn blank_command() -> [u8; 16384]
+fn blank_command() -> [u8; limits::LONGEST_COMMAND]
     ensures { λ r. ⌜ length r ≡ 16384 ⌝ }
 {
-    [0; 16384]
+    [0; limits::LONGEST_COMMAND]
 }
 
 // A command in octets that have room for the longest, judged and, where it is accepted, copied out.
-fn write_ready(numbers: &[u32; 1799], s: &[u8], out: &mut [u8], size: usize) -> Written
+fn write_ready(
+    numbers: &[u32; limits::RECORD_NUMBERS],
+    s: &[u8],
+    out: &mut [u8],
+    size: usize,
+) -> Written
     requires { ⌜ IsReady (now numbers) (now s) (now out) size ⌝ }
     ensures { λ r. ⌜ IsWritten (recordOf (now (numbers .entry))) (now (s .entry)) (now (out .entry)) r (now (out .exit)) ⌝ }
 {
     let mut command = blank_command();
-    let mut log = [0u32; 1792];
+    let mut log = [0u32; limits::LOG_NUMBERS];
     emit::put_command(&mut command, numbers, s, size);
     let outcome = reader::outcome(&command[..size], &mut log);
     if let Outcome::Refused(v) = outcome {
@@ -60,7 +65,7 @@ fn write_ready(numbers: &[u32; 1799], s: &[u8], out: &mut [u8], size: usize) -> 
 }
 
 // Writes the draft whose record the numbers stand for.
-pub fn write_numbers(numbers: &[u32; 1799], s: &[u8], out: &mut [u8]) -> Written
+pub fn write_numbers(numbers: &[u32; limits::RECORD_NUMBERS], s: &[u8], out: &mut [u8]) -> Written
     ensures { λ r. ⌜ IsWritten (recordOf (now (numbers .entry))) (now (s .entry)) (now (out .entry)) r (now (out .exit)) ⌝ }
 {
     if !draft::is_well_formed(numbers, s) {
@@ -81,7 +86,7 @@ pub fn write_numbers(numbers: &[u32; 1799], s: &[u8], out: &mut [u8]) -> Written
 pub fn write(draft: Record, s: &[u8], out: &mut [u8]) -> Written
     ensures { λ r. ⌜ IsWritten draft (now (s .entry)) (now (out .entry)) r (now (out .exit)) ⌝ }
 {
-    let mut numbers = [0u32; 1799];
+    let mut numbers = [0u32; limits::RECORD_NUMBERS];
     numbers::put(&mut numbers, draft);
     write_numbers(&numbers, s, out)
 }

@@ -7,6 +7,7 @@ ghost use Rattle.rules.specs.Avp.{headerOf};
 ghost use Rattle.writer.specs.Promise.{IsOwnSize, IsSizeUnder};
 use rules::Avp;
 use rules::kinds::NO_VENDOR;
+use rules::limits;
 
 // V is set exactly when the vendor is not 0.
 pub(crate) fn header_size(vendor: u32) -> usize
@@ -30,7 +31,7 @@ fn own_size(a: Avp) -> usize
 }
 
 // The octets of the AVPs from a position on that are deeper than a depth, up to the first that is not.
-pub(crate) fn size_under(numbers: &[u32; 1799], from: usize, depth: u32) -> usize
+pub(crate) fn size_under(numbers: &[u32; limits::RECORD_NUMBERS], from: usize, depth: u32) -> usize
     requires { ⌜ from ≤ 256 ⌝ }
     ensures { λ r. ⌜ IsSizeUnder (now (numbers .entry)) from depth r ⌝ }
 {
