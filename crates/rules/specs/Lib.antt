@@ -14,5 +14,6 @@ pub mod Record
 pub mod Meaning
 pub mod Writer
 pub mod Calls
+pub mod Demands
 pub mod Book
 pub mod Edges

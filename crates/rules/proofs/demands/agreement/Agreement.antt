@@ -10,7 +10,7 @@ use borrow.Author.Tests.{ltb-true, ltb-false}
 use lib.Dec.{ltb, eqb}
 use lib.ListN.{length, getD, length-map}
 use Rattle.rules.specs.declared.Outcome.the-variants.{Pass}
-use Rattle.rules.specs.Octets.{flag}
+use Rattle.rules.specs.Octets.{AreOctets, flag}
 use Rattle.rules.specs.Header.{commandFlags, hopByHop, endToEnd}
 use Rattle.rules.specs.Dictionary.{dictionary}
 use Rattle.rules.specs.Walk.{avpsOf}
@@ -20,7 +20,6 @@ use Rattle.rules.proofs.Walk.{by-cases}
 use Rattle.rules.proofs.demands.items.Items.{cellIn, octetsOf}
 use Rattle.rules.proofs.demands.items.Trees.{sizeOf}
 use Rattle.rules.proofs.demands.items.Lists.{tights, size-octets}
-use Rattle.rules.proofs.demands.octets.Digits.{Octets}
 use Rattle.rules.proofs.demands.read.OneItem.{flag-value}
 use Rattle.rules.proofs.demands.agreement.Depths.{same-cells}
 use Rattle.rules.proofs.demands.agreement.Paddings.{padding-below}
@@ -60,7 +59,7 @@ module _ (f g : ℕ) where
 
 -- ---- the theorem
 
-module _ (a b : List ℕ) (oa : Octets a) (ob : Octets b) (ka : Accepted a) (kb : Accepted b) where
+module _ (a b : List ℕ) (oa : AreOctets a) (ob : AreOctets b) (ka : Accepted a) (kb : Accepted b) where
   -- the header's octets, of which the flags are the fifth
   header-octet : meaningOf a ≡ meaningOf b → length a ≡ length b → (i : ℕ) → i < 20 → (i ≡ 4 → ⊥)
       → getD a i 0 ≡ getD b i 0
@@ -148,7 +147,7 @@ module _ (a b : List ℕ) (oa : Octets a) (ob : Octets b) (ka : Accepted a) (kb 
       )
 
 -- demand 3, first half
-pub same-meaning : (a b : List ℕ) → Octets a → Octets b → commandOutcome a ≡ Pass → commandOutcome b ≡ Pass
+pub same-meaning : (a b : List ℕ) → AreOctets a → AreOctets b → commandOutcome a ≡ Pass → commandOutcome b ≡ Pass
     → (meaningOf a ≡ meaningOf b) ↔ Agree a b
 same-meaning a b oa ob pa pb =
     let ka = accepted a oa pa in
