@@ -12,6 +12,7 @@ pub mod Exchange
 pub mod Command
 pub mod Record
 pub mod Meaning
+pub mod Agreement
 pub mod Writer
 pub mod Calls
 pub mod Demands

@@ -13,7 +13,8 @@ use Rattle.rules.specs.Octets.{AreOctets}
 use Rattle.rules.specs.Verdict.{readerNumbers, writerOnlyNumbers, writerNumbers, isAmong}
 use Rattle.rules.specs.Command.{commandOutcome, commandVerdict}
 use Rattle.rules.specs.Record.{emptyRecord, reading}
-use Rattle.rules.specs.Meaning.{meaningOf, meaningOver, Agree}
+use Rattle.rules.specs.Meaning.{meaningOf, meaningOver}
+use Rattle.rules.specs.Agreement.{Agree}
 use Rattle.rules.specs.Writer.{Draft, draftOutcome, writing}
 use Rattle.rules.specs.Calls.{allWritten, acceptedDrafts, SameInOrder}
 use Rattle.rules.specs.Demands.{AcceptedCommand, AcceptedWrite, Unaltered, WroteMeaning, ownDraft, Rewritten, WholeOutput}

@@ -1,7 +1,7 @@
 -- The number that comes back is 0 or one of the table: the reader's, and for a draft those of the writer too. The table
 -- lacks 0 but for acceptance, so the number is 0 exactly when the command, or the draft, is accepted.
 use mathlib.Core.Path.{_≡_, refl, ap}
-use mathlib.Core.Bool.{Bool, true, false, _||_}
+use mathlib.Core.Bool.{true, false}
 use mathlib.Core.List.{List, _∷_}
 use mathlib.Core.Logic.{_↔_}
 use Prim.Native.Nat.{ℕ}
