@@ -5,6 +5,7 @@ pub mod Outcomes
 pub mod Fields
 pub mod Names
 pub mod Walk
+pub mod Meanings
 pub mod Passed
 pub mod Header
 pub mod Commands

@@ -17,11 +17,15 @@ use Rattle.rules.specs.Command.{walkOf}
 abbrev pub avpLength : Avp → ℕ
 avpLength a = endOf a - placeOf a
 
--- an octet follows an AVP to fill its length to a multiple of four
-abbrev pub fills : Avp → ℕ → Bool
-fills a i = leb (endOf a) i && ltb i (placeOf a + padded (avpLength a))
+-- where its length is filled to a multiple of four
+abbrev pub filledEnd : Avp → ℕ
+filledEnd a = placeOf a + padded (avpLength a)
 
--- it follows one of these AVPs so
+-- an octet follows an AVP to fill its length so
+abbrev pub fills : Avp → ℕ → Bool
+fills a i = leb (endOf a) i && ltb i (filledEnd a)
+
+-- it follows one of these AVPs to fill its length
 unfoldable pub fillsOne : List Avp → ℕ → Bool
 fillsOne [] i = false
 fillsOne (a ∷ xs) i = fills a i || fillsOne xs i

@@ -21,8 +21,8 @@ use Rattle.rules.specs.Demands.{AcceptedCommand, AcceptedWrite, Unaltere
 use Rattle.rules.proofs.demands.numbering.Numbering.{command-number, draft-number, command-table, command-not-writers, draft-table}
 use Rattle.rules.proofs.demands.again.RoundTrip.{record-means, draft-accepted, draft-written, written-long}
 use Rattle.rules.proofs.demands.agreement.Agreement.{same-meaning}
-use Rattle.rules.proofs.demands.calls.Calls.{front-is, same-written, output-is}
-use Rattle.rules.proofs.demands.calls.Answers.{empty-read, none-written, unaltered, nothing-told, same-part, front-accepted, front-means, front-long, written-told}
+use Rattle.rules.proofs.demands.calls.Calls.{front-long, front-is, same-written, output-is}
+use Rattle.rules.proofs.demands.calls.Answers.{empty-read, none-written, unaltered, nothing-told, same-part, front-accepted, front-means, written-told}
 
 -- ---- demand 1: the answer, and refusals
 

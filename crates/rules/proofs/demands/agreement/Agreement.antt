@@ -18,6 +18,7 @@ use Rattle.rules.specs.Command.{walkOf, commandOutcome}
 use Rattle.rules.specs.Meaning.{Meaning, meaningOf}
 use Rattle.rules.specs.Agreement.{compared, Agree}
 use Rattle.rules.proofs.Walk.{by-cases}
+use Rattle.rules.proofs.Meanings.{same-fields}
 use Rattle.rules.proofs.demands.items.Items.{cellIn, octetsOf}
 use Rattle.rules.proofs.demands.items.Trees.{sizeOf}
 use Rattle.rules.proofs.demands.items.Lists.{tights, size-octets}
@@ -90,8 +91,9 @@ module _ (a b : List ℕ) (oa : AreOctets a) (ob : AreOctets b) (ka : Accepted a
   -- R, P, E, T, which are what is compared of the flags octet
   flags-same : meaningOf a ≡ meaningOf b → compared a 4 ≡ compared b 4
   flags-same e =
-      upper-same (commandFlags a) (commandFlags b) (oa 4) (ob 4) (ap (λ (m : Meaning). m .r) e)
-      (ap (λ (m : Meaning). m .p) e) (ap (λ (m : Meaning). m .e) e) (ap (λ (m : Meaning). m .t) e)
+      let u = upper-same (commandFlags a) (commandFlags b) (oa 4) (ob 4) (ap (λ (m : Meaning). m .r) e)
+      (ap (λ (m : Meaning). m .p) e) (ap (λ (m : Meaning). m .e) e) (ap (λ (m : Meaning). m .t) e) in
+      omega arith
 
   means-agree : meaningOf a ≡ meaningOf b → Agree a b
   means-agree e =
@@ -145,20 +147,10 @@ module _ (a b : List ℕ) (oa : AreOctets a) (ob : AreOctets b) (ka : Accepted a
       number-same a b 4 12 (omega arith) (omega arith) (λ i h k. head i (omega arith) (λ q. omega arith)) in
       let end : endToEnd a ≡ endToEnd b =
       number-same a b 4 16 (omega arith) (omega arith) (λ i h k. head i (omega arith) (λ q. omega arith)) in
+      let upper : commandFlags a / 16 ≡ commandFlags b / 16 = omega (arith, first 4 (omega arith)) in
       let u : (k : ℕ) → flag (16 * k) (commandFlags a) ≡ flag (16 * k) (commandFlags b) =
-      λ k. same-upper (commandFlags a) (commandFlags b) k (first 4 (omega arith)) in
-      rw (
-        u 8,
-        u 4,
-        u 2,
-        u 1,
-        hop,
-        end,
-        count,
-        cells-are a ka,
-        cells-are b kb,
-        c,
-      )
+      λ k. same-upper (commandFlags a) (commandFlags b) k upper in
+      same-fields (meaningOf a) (meaningOf b) (u 8) (u 4) (u 2) (u 1) hop end count (cells-are a ka ∙ c ∙ sym (cells-are b kb))
 
 -- demand 3, first half
 pub same-meaning : (a b : List ℕ) → AreOctets a → AreOctets b → commandOutcome a ≡ Pass → commandOutcome b ≡ Pass

@@ -1,5 +1,5 @@
 -- Where the padding of items stands: behind an item's own octets, up to the next item.
-use mathlib.Core.Path.{_≡_, refl, _∙_}
+use mathlib.Core.Path.{_≡_, refl, ap, _∙_}
 use mathlib.Core.Bool.{Bool, true, false, _&&_, _||_}
 use mathlib.Core.List.{List, [], _∷_}
 use Prim.Native.Nat.{ℕ, _+_, _-_, _≤_, _<_}
@@ -10,7 +10,7 @@ use lib.ListN.{length}
 use Rattle.rules.specs.Octets.{padded}
 use Rattle.rules.specs.Avp.{headerOf, placeOf, endOf}
 use Rattle.rules.specs.Dictionary.{Entry}
-use Rattle.rules.specs.Agreement.{fillsOne}
+use Rattle.rules.specs.Agreement.{avpLength, filledEnd, fillsOne}
 use Rattle.rules.specs.Writer.{hasVendor}
 use Rattle.rules.proofs.Octets.{padded-least}
 use Rattle.rules.proofs.Walk.{by-cases}
@@ -23,6 +23,16 @@ use Rattle.rules.proofs.demands.items.Lists.{Tight}
 place-is : (at : ℕ) (x : Item) → placeOf (avpOf at x) ≡ at
 place-is at x =
     by-cases (eqb (x .cell .vendor) 0) (λ h. rw h (omega arith)) (λ h. rw h (omega arith))
+
+-- its length is filled where its data is padded
+filled-end : (at : ℕ) (x : Item)
+    → filledEnd (avpOf at x) ≡ at + (headerOf (hasVendor (x .cell)) + padded (x .cell .length))
+filled-end at x =
+    let p = place-is at x in
+    let e : avpLength (avpOf at x) ≡ headerOf (hasVendor (x .cell)) + x .cell .length = rw p (omega arith) in
+    let q : padded (avpLength (avpOf at x)) ≡ headerOf (hasVendor (x .cell)) + padded (x .cell .length) =
+    ap padded e ∙ padded-header (hasVendor (x .cell)) (x .cell .length) in
+    omega arith
 
 -- an item's octets without its padding
 abbrev pub front : Item → ℕ
@@ -41,9 +51,7 @@ padding-cons : (at : ℕ) (x : Item) (xs : List Item) (i : ℕ)
     → fillsOne (avpsAt at (x ∷ xs)) i ≡ (isFill at x i || fillsOne (avpsAt (at + step x) xs) i)
 unfolding fillsOne avpsAt
 padding-cons at x xs i =
-    let h = headerOf (hasVendor (x .cell)) in
-    let e : endOf (avpOf at x) - at ≡ h + x .cell .length = omega arith in
-    rw (place-is at x, e, padded-header (hasVendor (x .cell)) (x .cell .length))
+    ap (λ (n : ℕ). leb (endOf (avpOf at x)) i && ltb i n || fillsOne (avpsAt (at + step x) xs) i) (filled-end at x)
 
 -- within an item's header and data, where the items behind have no padding
 before-padding : (at : ℕ) (x : Item) (xs : List Item) (i : ℕ) → i < at + headerOf (hasVendor (x .cell)) + x .cell .length

@@ -12,7 +12,7 @@ use Rattle.rules.specs.Meaning.{meaningOf}
 use Rattle.rules.specs.Writer.{Draft, draftMeaning, draftOctets, draftOutcome, octetsBy, octetsWritten, writing, outputAfter}
 use Rattle.rules.specs.Calls.{front, rest, allWritten, toldLength}
 use Rattle.rules.proofs.demands.written.Drafts.{draft-meaning}
-use Rattle.rules.proofs.demands.calls.Calls.{front-is, accepted}
+use Rattle.rules.proofs.demands.calls.Calls.{length-told, front-long, front-is, accepted}
 use Rattle.rules.proofs.demands.numbering.Numbering.{command-number, draft-number}
 
 -- ---- refusals
@@ -37,21 +37,13 @@ unfolding octetsWritten
 none-written d out n = none-by (draftOutcome d (length out)) (draftOctets d) (λ e. n (draft-number d out .1 e))
 
 module _ (d : Draft) (out : List ℕ) where
-  length-told : writing d out .length ≡ length (octetsWritten d (length out))
-  unfolding writing
-  length-told = refl
-
-  -- what was written is as long as the answer says
-  pub front-long : length (front d out) ≡ writing d out .length
-  front-long = ap length (front-is d out) ∙ sym length-told
-
   module _ (none : octetsWritten d (length out) ≡ []) where
     pub unaltered : outputAfter d out ≡ out
     unfolding outputAfter
     unaltered = rw none
 
     pub nothing-told : writing d out .length ≡ 0
-    nothing-told = length-told ∙ ap length none
+    nothing-told = length-told d out ∙ ap length none
 
     pub same-part : rest d out ≡ out
     same-part = rw (nothing-told, unaltered)

@@ -8,7 +8,7 @@ use Prim.Native.Nat.{ℕ, suc, _-_, _≤_}
 use native.Mathlib.Omega.{arith}
 use borrow.Author.Tests.{ltb-false, not-false, eq-eqb, ne-eqb}
 use lib.Dec.{ltb}
-use lib.ListN.{length, take, drop, length-append, length-drop}
+use lib.ListN.{length, take, drop, length-append, length-take, length-drop}
 use lib.Seq.{take-at, drop-at, drop-drop, take-append-seam, drop-append-seam}
 use Rattle.rules.specs.declared.Verdict.{Verdict}
 use Rattle.rules.specs.declared.Outcome.{Outcome}
@@ -28,16 +28,6 @@ use Rattle.rules.proofs.demands.written.Drafts.{draft-writable, draft-m
 use Rattle.rules.proofs.demands.numbering.Numbering.{draft-number}
 
 -- ---- one call
-
--- what a call wrote, and what it leaves to the next
-module _ (d : Draft) (out : List ℕ) where
-  pub front-is : front d out ≡ octetsWritten d (length out)
-  unfolding writing outputAfter
-  front-is = take-append-seam (octetsWritten d (length out)) _
-
-  pub rest-is : rest d out ≡ drop (length (octetsWritten d (length out))) out
-  unfolding writing outputAfter
-  rest-is = drop-append-seam (octetsWritten d (length out)) _
 
 -- an accepted draft: none of 7006, 7001, 7004, and the reader accepts its octets
 pub record Accepted (d : Draft) (room : ℕ) : Type 0 where
@@ -68,6 +58,37 @@ written-fits d room (Refused v) e = omega arith
 pub room-enough : (d : Draft) (room : ℕ) → length (octetsWritten d room) ≤ room
 unfolding octetsWritten
 room-enough d room = written-fits d room (draftOutcome d room) refl
+
+module _ (d : Draft) (out : List ℕ) where
+  -- the answer tells how many octets are written
+  pub length-told : writing d out .length ≡ length (octetsWritten d (length out))
+  unfolding writing
+  length-told = refl
+
+  output-long : length (outputAfter d out) ≡ length out
+  unfolding outputAfter
+  output-long =
+      let w = octetsWritten d (length out) in
+      let l = length-append w (drop (length w) out) in
+      omega (arith, length-drop (length w) out, room-enough d (length out))
+
+  -- what the call wrote is as long as the answer says, and what it leaves is the rest of the output
+  pub front-long : length (front d out) ≡ writing d out .length
+  front-long =
+      let l = length-take (writing d out .length) (outputAfter d out) in
+      omega (arith, length-told, output-long, room-enough d (length out))
+
+  rest-long : length (rest d out) ≡ length out - writing d out .length
+  rest-long = omega (arith, length-drop (writing d out .length) (outputAfter d out), output-long)
+
+  -- they are the octets that the writer's rules give, and the output behind them
+  pub front-is : front d out ≡ octetsWritten d (length out)
+  unfolding writing outputAfter
+  front-is = take-append-seam (octetsWritten d (length out)) _
+
+  pub rest-is : rest d out ≡ drop (length (octetsWritten d (length out))) out
+  unfolding writing outputAfter
+  rest-is = drop-append-seam (octetsWritten d (length out)) _
 
 -- ---- commands end to end
 
@@ -191,8 +212,8 @@ output-is (d ∷ ds) out =
     let w = octetsWritten d (length out) in
     let ih = output-is ds (rest d out) in
     let r = room-enough d (length out) in
-    let q = rest-is d out in
-    let l : length (rest d out) ≡ length out - length w = ap length q ∙ length-drop (length w) out in (
-      rw (ih .0, front-is d out) (simp (append-assoc, length-append, q, drop-drop)),
+    let t = length-told d out in
+    let l = rest-long d out in (
+      rw (ih .0, front-is d out) (simp (append-assoc, length-append, rest-is d out, drop-drop)),
       rw (front-is d out) (length-append w _ ∙ omega (arith, ih .1)),
     )

@@ -40,7 +40,7 @@ module _ (dict : List Entry) (s : List ℕ) where
       let c = x .cell in
       let h = headerOf (hasVendor c) in
       let d : drop (at + h) s ≡ c .octets ++ tail = drop-on s (avpHeader c) _ at (at + h) (rw (length-header c)) e in
-      let o : cond (isGroupCell dict c) [] (take (c .length) (drop (at + h) s)) ≡ c .octets =
+      let o : cellOf dict s (avpOf at x) .octets ≡ c .octets =
       by-cases (isGroupCell dict c)
       (λ g. rw g (sym (nil-of _ (f .data-is ∙ rw g))))
       (λ g. rw g (ap (take (c .length)) d ∙ take-at (c .octets) tail (c .length) (f .data-is ∙ rw g))) in

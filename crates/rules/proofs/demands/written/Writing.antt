@@ -9,10 +9,11 @@ use Rattle.rules.specs.declared.Avp.{Avp}
 use Rattle.rules.specs.Octets.{padded}
 use Rattle.rules.specs.Header.{headerSize, longestCommand}
 use Rattle.rules.specs.Dictionary.{dictionary}
-use Rattle.rules.specs.Walk.{whole}
+use Rattle.rules.specs.Walk.{whole, avpsOf}
 use Rattle.rules.specs.Command.{walkOf}
 use Rattle.rules.specs.Meaning.{Cell, Meaning, cellOf, meaningOf}
 use Rattle.rules.specs.Writer.{avpOctets, listOctets, commandOctets}
+use Rattle.rules.proofs.Meanings.{same-fields}
 use Rattle.rules.proofs.demands.items.Items.{Item, cellIn, octetsOf, avpsAt, Listed, judged}
 use Rattle.rules.proofs.demands.items.Sequences.{octets-nil, octets-cons, length-avps}
 use Rattle.rules.proofs.demands.written.Read.{full}
@@ -74,4 +75,6 @@ module _ (m : Meaning) (w : Writable m) where
       cells-of dictionary s items [] headerSize (w .listed .fit) list-at ∙ cells-zeroed (m .cells) in
       let n : length (avpsAt headerSize items) ≡ m .count =
       length-avps headerSize items ∙ length-map (m .cells) zeroed ∙ sym (w .count-is) in
-      rw (e, lim .avps-are, c, n, h .hop-is, h .end-is, f .first, f .second, f .third, f .fourth)
+      let w : avpsOf (walkOf s) ≡ avpsAt headerSize items = ap avpsOf e ∙ lim .avps-are in
+      same-fields (meaningOf s) m (f .first) (f .second) (f .third) (f .fourth) (h .hop-is) (h .end-is)
+      (ap length w ∙ n) (ap (map (cellOf dictionary s)) w ∙ c)
