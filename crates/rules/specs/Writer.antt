@@ -107,20 +107,22 @@ isTree most dict [] = true
 isTree most dict (c ∷ cs) =
     leb 1 (c .depth) && leb (c .depth) most && leb (c .depth) deepest && isTree (nextDepth dict c) dict cs
 
--- the octets of an AVP with its padding; of a read group those of its header
-unfoldable pub ownSize : List Entry → Cell → ℕ
-ownSize dict c = headerOf (hasVendor c) + cond (isReadGroup dict (c .vendor) (c .code)) 0 (padded (c .length))
+-- the octets of an AVP with its padding
+abbrev pub fullSize : Cell → ℕ
+fullSize c = headerOf (hasVendor c) + padded (c .length)
 
--- the octets of the AVPs deeper than a depth, up to the first that is not
-unfoldable pub sizeUnder : ℕ → List Entry → List Cell → ℕ
-sizeUnder depth dict [] = 0
-sizeUnder depth dict (c ∷ cs) = cond (ltb depth (c .depth)) (ownSize dict c + sizeUnder depth dict cs) 0
+-- the octets of the members at a depth: of the AVPs that follow in walk order those at that depth, up to the first
+-- above it
+unfoldable pub membersSize : ℕ → List Cell → ℕ
+membersSize depth [] = 0
+membersSize depth (c ∷ cs) =
+    cond (ltb (c .depth) depth) 0 (cond (eqb (c .depth) depth) (fullSize c) 0 + membersSize depth cs)
 
 -- 7006: a read group's length is that of its members with padding
 unfoldable pub hasSizes : List Entry → List Cell → Bool
 hasSizes dict [] = true
 hasSizes dict (c ∷ cs) =
-    cond (isReadGroup dict (c .vendor) (c .code)) (eqb (c .length) (sizeUnder (c .depth) dict cs)) true && hasSizes dict cs
+    cond (isReadGroup dict (c .vendor) (c .code)) (eqb (c .length) (membersSize (c .depth + 1) cs)) true && hasSizes dict cs
 
 -- 7006: the identifiers fit four octets
 unfoldable pub identifiersFit : Record → Bool

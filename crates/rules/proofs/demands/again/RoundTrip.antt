@@ -23,6 +23,7 @@ use Rattle.rules.specs.Writer.{Draft, cellsOf, hasRoom, isBlank, allBlan
 use Rattle.rules.proofs.Walk.{by-cases}
 use Rattle.rules.proofs.demands.items.Items.{Item, cellIn, octetsOf, step, avpOf, avpsAt, All, Fit}
 use Rattle.rules.proofs.demands.items.Trees.{isGroupCell}
+use Rattle.rules.proofs.demands.items.Members.{sizes-same}
 use Rattle.rules.proofs.demands.items.Sequences.{length-cons, avps-nil, avps-cons, length-avps}
 use Rattle.rules.proofs.demands.written.Drafts.{WellFormed}
 use Rattle.rules.proofs.demands.octets.Digits.{Octets, numberAt-below}
@@ -87,6 +88,7 @@ is-well-formed d w =
       w .blank,
       w .placed-all,
       w .tree,
+      sizes-same dictionary (cellsOf d) 1 (w .tree),
       w .sizes,
     )
 

@@ -23,11 +23,12 @@ use Rattle.rules.specs.Writer.{hasVendor, listOctets, Draft, cellsOf, dr
 use Rattle.rules.proofs.Tests.{and-true}
 use Rattle.rules.proofs.Walk.{by-cases}
 use Rattle.rules.proofs.Commands.{passed-command}
-use Rattle.rules.proofs.demands.items.Items.{octetsOf, All, Fit, Listed}
+use Rattle.rules.proofs.demands.items.Items.{octetsOf, All, Fit, hasSizesUnder, Listed}
 use Rattle.rules.proofs.demands.written.Headers.{command-long}
 use Rattle.rules.proofs.demands.items.Trees.{isGroupCell, tree-over, sized, sizeOf, under-most}
 use Rattle.rules.proofs.demands.items.Sequences.{length-cons}
 use Rattle.rules.proofs.demands.items.Lists.{tights, size-octets}
+use Rattle.rules.proofs.demands.items.Members.{sizes-same}
 use Rattle.rules.proofs.demands.written.Writing.{zeroed, cells-zeroed, list-octets, Writable, meaning-written}
 
 module _ (dict : List Entry) (s : List ℕ) where
@@ -49,14 +50,14 @@ module _ (dict : List Entry) (s : List ℕ) where
         code-small = ltb-true _ _ (b .1);
       }
 
-  placed-first : (a : Avp) (xs : List Avp) → allPlaced dict (length s) (a ∷ xs) ≡ true
+  pub placed-first : (a : Avp) (xs : List Avp) → allPlaced dict (length s) (a ∷ xs) ≡ true
       → Placed a × (allPlaced dict (length s) xs ≡ true)
   unfolding allPlaced
   placed-first a xs h =
       let b = and-true (isPlaced dict (length s) a) (allPlaced dict (length s) xs) h in
       (placed a (b .0), b .1)
 
-  data-long : (a : Avp) → Placed a
+  pub data-long : (a : Avp) → Placed a
       → length (cellOf dict s a .octets) ≡ cond (isGroupCell dict (cellOf dict s a)) 0 (a .length)
   data-long a p =
       by-cases (isGroupCell dict (cellOf dict s a))
@@ -65,7 +66,7 @@ module _ (dict : List Entry) (s : List ℕ) where
 
   -- a list of AVPs that are placed, with members as long as their groups say, is one that its octets can say
   pub fits-placed : (xs : List Avp) → allPlaced dict (length s) xs ≡ true
-      → hasSizes dict (map (cellOf dict s) xs) ≡ true
+      → hasSizesUnder dict (map (cellOf dict s) xs) ≡ true
       → length (octetsOf (map zeroed (map (cellOf dict s) xs))) ≤ longestCommand
       → All (Fit dict) (map zeroed (map (cellOf dict s) xs))
   fits-placed [] h z l = tt
@@ -109,7 +110,7 @@ pub record WellFormed (d : Draft) : Type 0 where
   pub blank : allBlank (drop (d .«record» .count) (d .«record» .avps)) ≡ true
   pub placed-all : allPlaced dictionary (length (d .octets)) (recorded (d .«record»)) ≡ true
   pub tree : isTree 1 dictionary (cellsOf d) ≡ true
-  pub sizes : hasSizes dictionary (cellsOf d) ≡ true
+  pub sizes : hasSizesUnder dictionary (cellsOf d) ≡ true
 
 pub well-formed : (d : Draft) → isWellFormed d ≡ true → WellFormed d
 unfolding isWellFormed hasRoom identifiersFit
@@ -133,7 +134,7 @@ well-formed d h =
       blank = e .1;
       placed-all = c .1;
       tree = b .1;
-      sizes = a .1;
+      sizes = sym (sizes-same dictionary (cellsOf d) 1 (b .1)) ∙ a .1;
     }
 
 -- all AVPs that the record counts stand in it
