@@ -12,6 +12,8 @@ pub mod Exchange
 pub mod Command
 pub mod Record
 pub mod Meaning
+pub mod Wire
+pub mod Draft
 pub mod Writer
 pub mod Calls
 pub mod Book
