@@ -62,11 +62,11 @@ unfoldable pub allPlaced : List Entry → ℕ → List Avp → Bool
 allPlaced dict size [] = true
 allPlaced dict size (a ∷ xs) = isPlaced dict size a && allPlaced dict size xs
 
--- the depths form a tree: first 1; none 0; deeper by one only after a read group; at most 4. `most` is the greatest that
--- may follow
+-- the greatest depth that may follow an AVP: deeper by one only after a read group
 abbrev pub nextDepth : List Entry → Cell → ℕ
 nextDepth dict c = cond (isReadGroup dict (c .vendor) (c .code)) (c .depth + 1) (c .depth)
 
+-- the depths form a tree: first 1, none 0, at most 4, and none greater than may follow the one before
 unfoldable pub isTree : ℕ → List Entry → List Cell → Bool
 isTree most dict [] = true
 isTree most dict (c ∷ cs) =
