@@ -1,4 +1,6 @@
 -- The laws of the definitions, by topic. They name no code.
+-- computed: the writer's drafts and octets at the edges
+pub mod WriterEdges
 pub mod Octets
 pub mod Tests
 pub mod Outcomes

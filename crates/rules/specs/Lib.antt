@@ -1,4 +1,4 @@
--- Document 01 as definitions, in its order. The last three files compute examples.
+-- Document 01 as definitions, in its order. The last two files compute examples.
 pub mod Octets
 pub mod Verdict
 pub mod Header
@@ -18,4 +18,3 @@ pub mod Writer
 pub mod Calls
 pub mod Book
 pub mod Edges
-pub mod WriterEdges

@@ -6,7 +6,7 @@ use mathlib.Core.List.{List, [], _∷_, _++_}
 use Prim.Native.Nat.{ℕ, _+_, _-_, _*_, _/_, _≤_, _<_}
 use native.Mathlib.Nat.{zero-add}
 use native.Mathlib.Omega.{arith}
-use borrow.Author.Tests.{lt-ltb, le-ltb, le-leb, eq-eqb, leb-true, eqb-true}
+use borrow.Author.Tests.{lt-ltb, le-ltb, le-leb, eq-eqb, leb-true, eqb-true, ltb-true, ltb-false}
 use lib.Dec.{ltb, leb, eqb}
 use Rattle.rules.specs.Octets.{padded}
 use Rattle.rules.specs.Avp.{headerOf}
@@ -71,6 +71,11 @@ module _ (dict : List Entry) where
     pub cap : c .depth ≤ deepest
     pub rest : isTree (nextDepth dict c) dict cs ≡ true
 
+  -- none has depth 0
+  tree-zero : (most : ℕ) (c : Cell) (cs : List Cell) → c .depth ≡ 0 → isTree most dict (c ∷ cs) ≡ false
+  unfolding isTree
+  tree-zero most c cs e = rw e
+
   pub stands : (most : ℕ) (c : Cell) (cs : List Cell) → isTree most dict (c ∷ cs) ≡ true → Stands most c cs
   unfolding isTree
   stands most c cs h =
@@ -78,7 +83,15 @@ module _ (dict : List Entry) where
       let a = and-true (leb 1 (c .depth) && leb (c .depth) most && leb (c .depth) deepest) rest h in
       let b = and-true (leb 1 (c .depth) && leb (c .depth) most) (leb (c .depth) deepest) (a .0) in
       let e = and-true (leb 1 (c .depth)) (leb (c .depth) most) (b .0) in
-      record { least = leb-true _ _ (e .0); most-is = leb-true _ _ (e .1); cap = leb-true _ _ (b .1); rest = a .1 }
+      let least : 1 ≤ c .depth =
+      by-cases (ltb 0 (c .depth))
+      (λ k. ltb-true 0 (c .depth) k)
+      (λ k.
+      let n : c .depth ≡ 0 = omega (arith, ltb-false 0 (c .depth) k) in
+      let z : _≡_ {A = Bool} true false = sym h ∙ tree-zero most c cs n in
+      let y : _≡_ {A = ℕ} 0 1 = cc in
+      absurd (omega arith)) in
+      record { least = least; most-is = leb-true _ _ (e .1); cap = leb-true _ _ (b .1); rest = a .1 }
 
   pub tree-of : (most : ℕ) (c : Cell) (cs : List Cell) → Stands most c cs → isTree most dict (c ∷ cs) ≡ true
   unfolding isTree

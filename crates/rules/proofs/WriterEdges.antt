@@ -1,5 +1,5 @@
--- The writer at the edges, computed: for each condition of 7006 drafts that meet it and drafts that do not, and the
--- octets of a command.
+-- The writer at the edges, computed: for each condition of 7006, in 01's order, drafts that meet it and drafts that do
+-- not; and the octets of a command.
 use mathlib.Core.Path.{_≡_, refl}
 use Prim.Native.Nat.{ℕ, _-_, _^_}
 use mathlib.Core.List.{List, [], _∷_, map}
@@ -53,50 +53,87 @@ good d = record { draft = d; formed = true }
 abbrev bad : Draft → Form
 bad d = record { draft = d; formed = false }
 
--- condition by condition, in 01's order
-unfoldable pub forms : List Form
-forms =
-    -- the count
+-- the drafts of a list are well formed or not, as it says
+abbrev AsSaid : List Form → Type 0
+AsSaid forms = map (λ f. isWellFormed (f .draft)) forms ≡ map (λ f. f .formed) forms
+
+-- the count does not exceed 256
+unfoldable pub counts : List Form
+counts =
     good (of []) ∷
     good (draft 1 2 256 (replicate 256 (avp 1 33 0 0))) ∷
-    bad (draft 1 2 257 (replicate 256 (avp 1 33 0 0))) ∷
-    -- a field of an unused place
+    bad (draft 1 2 257 (replicate 256 (avp 1 33 0 0))) ∷ []
+
+pub counts-said : AsSaid counts
+unfolding counts padded dictionary find isBlank allBlank isPlaced allPlaced isTree membersSize hasSizes identifiersFit nameFits namesFit isWellFormed
+counts-said = refl
+
+-- an unused place is all 0: one field is not
+unfoldable pub unused : List Form
+unused =
     bad (draft 1 2 0 (place 1 0 0 false false 0 0 ∷ [])) ∷
     bad (draft 1 2 0 (place 0 1 0 false false 0 0 ∷ [])) ∷
     bad (draft 1 2 0 (place 0 0 1 false false 0 0 ∷ [])) ∷
     bad (draft 1 2 0 (place 0 0 0 true false 0 0 ∷ [])) ∷
     bad (draft 1 2 0 (place 0 0 0 false true 0 0 ∷ [])) ∷
     bad (draft 1 2 0 (place 0 0 0 false false 1 0 ∷ [])) ∷
-    bad (draft 1 2 0 (place 0 0 0 false false 0 1 ∷ [])) ∷
-    -- a data part: of length 0 it may start at the end; a read group's start is free
+    bad (draft 1 2 0 (place 0 0 0 false false 0 1 ∷ [])) ∷ []
+
+pub unused-said : AsSaid unused
+unfolding unused padded dictionary find isBlank allBlank isPlaced allPlaced isTree membersSize hasSizes identifiersFit nameFits namesFit isWellFormed
+unused-said = refl
+
+-- a data part lies in the octets: one of length 0 may start at their end; a read group's start is free
+unfoldable pub parts : List Form
+parts =
     good (of (avp 1 33 0 4 ∷ [])) ∷
     bad (of (avp 1 33 1 4 ∷ [])) ∷
     good (of (avp 1 33 4 0 ∷ [])) ∷
     bad (of (avp 1 33 5 0 ∷ [])) ∷
-    good (of (avp 1 284 5 0 ∷ [])) ∷
-    -- depths: 0; 2 first; deeper after no read group; deeper by two; a read group at 4; 5
+    good (of (avp 1 284 5 0 ∷ [])) ∷ []
+
+pub parts-said : AsSaid parts
+unfolding parts padded dictionary find isBlank allBlank isPlaced allPlaced isTree membersSize hasSizes identifiersFit nameFits namesFit isWellFormed
+parts-said = refl
+
+-- depths: 0; 2 first; deeper after no read group; deeper by two; a read group at 4; an AVP at 5
+unfoldable pub trees : List Form
+trees =
     bad (of (avp 0 33 0 0 ∷ [])) ∷
     bad (of (avp 2 33 0 0 ∷ [])) ∷
     bad (of (avp 1 33 0 0 ∷ avp 2 33 0 0 ∷ [])) ∷
     bad (of (avp 1 284 0 0 ∷ avp 3 33 0 0 ∷ [])) ∷
     good (of (avp 1 284 0 24 ∷ avp 2 284 0 16 ∷ avp 3 284 0 8 ∷ avp 4 284 0 0 ∷ [])) ∷
-    bad (of (avp 1 284 0 32 ∷ avp 2 284 0 24 ∷ avp 3 284 0 16 ∷ avp 4 284 0 8 ∷ avp 5 33 0 0 ∷ [])) ∷
-    -- lengths: with the last member's padding and without; of a member with vendor; of a group in a group
+    bad (of (avp 1 284 0 32 ∷ avp 2 284 0 24 ∷ avp 3 284 0 16 ∷ avp 4 284 0 8 ∷ avp 5 33 0 0 ∷ [])) ∷ []
+
+pub trees-said : AsSaid trees
+unfolding trees padded dictionary find isBlank allBlank isPlaced allPlaced isTree membersSize hasSizes identifiersFit nameFits namesFit isWellFormed
+trees-said = refl
+
+-- lengths: with the last member's padding and without; of a member with vendor; of a group in a group
+unfoldable pub sizes : List Form
+sizes =
     good (of (avp 1 284 0 24 ∷ avp 2 33 0 1 ∷ avp 2 33 0 1 ∷ [])) ∷
     bad (of (avp 1 284 0 21 ∷ avp 2 33 0 1 ∷ avp 2 33 0 1 ∷ [])) ∷
     good (of (avp 1 284 0 16 ∷ place 2 10415 4202 true true 0 1 ∷ avp 1 33 0 4 ∷ [])) ∷
-    good (of (avp 1 284 0 32 ∷ avp 2 284 0 12 ∷ avp 3 33 0 1 ∷ avp 2 33 0 1 ∷ [])) ∷
-    -- what fits the wire: identifiers, vendor, code
+    good (of (avp 1 284 0 32 ∷ avp 2 284 0 12 ∷ avp 3 33 0 1 ∷ avp 2 33 0 1 ∷ [])) ∷ []
+
+pub sizes-said : AsSaid sizes
+unfolding sizes padded dictionary find isBlank allBlank isPlaced allPlaced isTree membersSize hasSizes identifiersFit nameFits namesFit isWellFormed
+sizes-said = refl
+
+-- what fits the wire: identifiers, vendor, code
+unfoldable pub wire : List Form
+wire =
     good (draft (2 ^ 32 - 1) (2 ^ 32 - 1) 1 (place 1 (2 ^ 32 - 1) (2 ^ 32 - 1) false false 0 0 ∷ [])) ∷
     bad (draft (2 ^ 32) 0 0 []) ∷
     bad (draft 0 (2 ^ 32) 0 []) ∷
     bad (of (place 1 (2 ^ 32) 0 false false 0 0 ∷ [])) ∷
     bad (of (place 1 0 (2 ^ 32) false false 0 0 ∷ [])) ∷ []
 
--- each draft is well formed or not, as said
-pub formed-edges : map (λ f. isWellFormed (f .draft)) forms ≡ map (λ f. f .formed) forms
-unfolding forms padded dictionary find isBlank allBlank isPlaced allPlaced isTree membersSize hasSizes identifiersFit nameFits namesFit isWellFormed
-formed-edges = refl
+pub wire-said : AsSaid wire
+unfolding wire padded dictionary find isBlank allBlank isPlaced allPlaced isTree membersSize hasSizes identifiersFit nameFits namesFit isWellFormed
+wire-said = refl
 
 -- ---- octets
 
@@ -120,22 +157,22 @@ meaning r p e t cells = record {
 unfoldable pub command : Meaning
 command = meaning true true false true (cell 0 33 true false (7 ∷ []) ∷ cell 10415 4202 true false [] ∷ [])
 
-pub command-edges : commandOctets command
+pub command-said : commandOctets command
     ≡ 1 ∷ 0 ∷ 0 ∷ 44 ∷ 0xD0 ∷ 0x80 ∷ 0x00 ∷ 0x73 ∷ 0x01 ∷ 0x00 ∷ 0x00 ∷ 0x84 ∷ 0 ∷ 0 ∷ 0 ∷ 1 ∷ 0 ∷ 0 ∷ 0 ∷ 2 ∷
     0 ∷ 0 ∷ 0x00 ∷ 0x21 ∷ 0x40 ∷ 0 ∷ 0 ∷ 9 ∷ 7 ∷ 0 ∷ 0 ∷ 0 ∷
     0 ∷ 0 ∷ 0x10 ∷ 0x6A ∷ 0xC0 ∷ 0 ∷ 0 ∷ 12 ∷ 0 ∷ 0 ∷ 0x28 ∷ 0xAF ∷ []
 unfolding command octets padded avpFlags avpHeader avpOctets listOctets flagsOctet commandHeader commandOctets
-command-edges = refl
+command-said = refl
 
 -- each flag alone: R, P, E, T of the command, and V, M, P of an AVP
-pub flag-edges : map flagsOctet (
+pub flags-said : map flagsOctet (
     meaning true false false false [] ∷ meaning false true false false [] ∷
     meaning false false true false [] ∷ meaning false false false true [] ∷ []
     ) ≡ 128 ∷ 64 ∷ 32 ∷ 16 ∷ []
 unfolding flagsOctet
-flag-edges = refl
+flags-said = refl
 
-pub avp-flag-edges : map avpFlags (cell 1 0 false false [] ∷ cell 0 0 true false [] ∷ cell 0 0 false true [] ∷ [])
+pub avp-flags-said : map avpFlags (cell 1 0 false false [] ∷ cell 0 0 true false [] ∷ cell 0 0 false true [] ∷ [])
     ≡ 128 ∷ 64 ∷ 32 ∷ []
 unfolding avpFlags
-avp-flag-edges = refl
+avp-flags-said = refl
