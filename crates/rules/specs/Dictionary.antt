@@ -28,26 +28,26 @@ unfoldable pub dictionary : List Entry
 dictionary =
     -- RFC 6733, no vendor
     entries 0 true (Fixed 4) (258 ∷ 259 ∷ 261 ∷ 262 ∷ 266 ∷ 268 ∷ 277 ∷ 278 ∷ 298 ∷ [])
-    ++ (entries 0 true Any (263 ∷ 264 ∷ 296 ∷ 293 ∷ 283 ∷ 292 ∷ 280 ∷ 33 ∷ 282 ∷ 279 ∷ [])
-    ++ (entries 0 false Any (281 ∷ 294 ∷ [])
-    ++ (entries 0 true (Group VendorSpecificApplicationId) (260 ∷ [])
-    ++ (entries 0 true (Group ExperimentalResult) (297 ∷ [])
-    ++ (entries 0 true (Group ProxyInfo) (284 ∷ [])
+    ++ entries 0 true Any (263 ∷ 264 ∷ 296 ∷ 293 ∷ 283 ∷ 292 ∷ 280 ∷ 33 ∷ 282 ∷ 279 ∷ [])
+    ++ entries 0 false Any (281 ∷ 294 ∷ [])
+    ++ entries 0 true (Group VendorSpecificApplicationId) (260 ∷ [])
+    ++ entries 0 true (Group ExperimentalResult) (297 ∷ [])
+    ++ entries 0 true (Group ProxyInfo) (284 ∷ [])
     -- RFC 4006, no vendor
-    ++ (entries 0 true (Fixed 4) (432 ∷ [])
-    ++ (entries 0 true (Fixed 8) (412 ∷ 414 ∷ 421 ∷ [])
+    ++ entries 0 true (Fixed 4) (432 ∷ [])
+    ++ entries 0 true (Fixed 8) (412 ∷ 414 ∷ 421 ∷ [])
     -- no vendor, M free
-    ++ (entries 0 false (Fixed 4) (301 ∷ [])
-    ++ (entries 0 false Any (621 ∷ 623 ∷ 650 ∷ [])
+    ++ entries 0 false (Fixed 4) (301 ∷ [])
+    ++ entries 0 false Any (621 ∷ 623 ∷ 650 ∷ [])
     -- 3GPP, M free
-    ++ (entries 10415 false (Fixed 4) (629 ∷ 630 ∷ [])
-    ++ (entries 10415 false Any (532 ∷ 2207 ∷ [])
-    ++ (entries 10415 false (Group SupportedFeatures) (628 ∷ [])
+    ++ entries 10415 false (Fixed 4) (629 ∷ 630 ∷ [])
+    ++ entries 10415 false Any (532 ∷ 2207 ∷ [])
+    ++ entries 10415 false (Group SupportedFeatures) (628 ∷ [])
     -- 3GPP, M
-    ++ (entries 10415 true (Fixed 4) (515 ∷ 516 ∷ 4203 ∷ 4205 ∷ 4206 ∷ 4208 ∷ 4209 ∷ [])
-    ++ (entries 10415 true Any (4201 ∷ 4202 ∷ [])
-    ++ (entries 10415 true (Group TimeWindow) (4204 ∷ [])
-    ++ entries 10415 true (Group TransferPolicy) (4207 ∷ []))))))))))))))))
+    ++ entries 10415 true (Fixed 4) (515 ∷ 516 ∷ 4203 ∷ 4205 ∷ 4206 ∷ 4208 ∷ 4209 ∷ [])
+    ++ entries 10415 true Any (4201 ∷ 4202 ∷ [])
+    ++ entries 10415 true (Group TimeWindow) (4204 ∷ [])
+    ++ entries 10415 true (Group TransferPolicy) (4207 ∷ [])
 
 -- what a dictionary says of a vendor and a code
 unfoldable pub find : List Entry → ℕ → ℕ → Definition

@@ -47,13 +47,17 @@ isError = flag 32
 abbrev pub isRetransmitted : ℕ → Bool
 isRetransmitted = flag 16
 
--- the Nt application, its command code, and the longest command
-abbrev pub applicationNt : ℕ
-applicationNt = 16777348
-
+-- the command code, the Nt application, and the vendor 3GPP
 abbrev pub codeBackgroundDataTransfer : ℕ
 codeBackgroundDataTransfer = 8388723
 
+abbrev pub applicationNt : ℕ
+applicationNt = 16777348
+
+abbrev pub vendor3GPP : ℕ
+vendor3GPP = 10415
+
+-- the longest command
 abbrev pub longestCommand : ℕ
 longestCommand = 16384
 

@@ -8,7 +8,7 @@ use lib.ListN.{take, drop, replicate}
 use Rattle.rules.specs.declared.Written.{Written}
 use Rattle.rules.specs.Octets.{numberAt, padded}
 use Rattle.rules.specs.Verdict.{verdict}
-use Rattle.rules.specs.Header.{lengthOutcome, applicationOutcome, flagsOutcome, headerOutcome}
+use Rattle.rules.specs.Header.{applicationNt, lengthOutcome, applicationOutcome, flagsOutcome, headerOutcome}
 use Rattle.rules.specs.Avp.{avpAt}
 use Rattle.rules.specs.Rows.{rowsOf, admitsOthers}
 use Rattle.rules.specs.Dictionary.{dictionary, find}
@@ -19,14 +19,11 @@ use Rattle.rules.specs.Exchange.{volume, firstRequest, laterRequest, req
 use Rattle.rules.specs.Command.{walkOf, listsOutcome, commandOutcome, commandVerdict}
 use Rattle.rules.specs.Record.{recordOf, emptyRecord, reading}
 use Rattle.rules.specs.Writer.{octets, avpFlags, avpHeader, avpOctets, listOctets, flagsOctet, commandHeader, commandOctets, hasRoom, isBlank, allBlank, isPlaced, allPlaced, isTree, ownSize, sizeUnder, hasSizes, identifiersFit, isWellFormed, draftOutcome, octetsWritten, writing, outputAfter, Draft}
-use Rattle.rules.specs.Edges.{header, sFront, sLast}
+use Rattle.rules.specs.Edges.{header, avp, avpOf3GPP, sBegins, vendorId, sGoesOn, sEnds, sFront, s}
 
--- S, and S with command flags CF and its first AVP, a Session-Id of one octet, padded with FF
-unfoldable pub s : List ℕ
-s = header 1 160 0xC0 0x84 ++ (sFront ++ sLast)
-
+-- S with command flags CF and its first AVP, a Session-Id of one octet, padded with FF
 unfoldable pub altered : List ℕ
-altered = header 1 160 0xCF 0x84 ++ (take 9 sFront ++ (0xFF ∷ 0xFF ∷ 0xFF ∷ (drop 12 sFront ++ sLast)))
+altered = header 1 160 0xCF applicationNt ++ take 9 (drop 20 s) ++ (0xFF ∷ 0xFF ∷ 0xFF ∷ drop 32 s)
 
 -- the answer of a call, and its output afterwards
 pub record Result : Type 0 where
@@ -61,5 +58,5 @@ written x =
 
 -- each example has its answer and its output
 pub worked-drafts : map written examples ≡ map (λ x. x .expected) examples
-unfolding examples s altered header sFront sLast numberAt padded lengthOutcome applicationOutcome flagsOutcome headerOutcome avpAt rowsOf admitsOthers dictionary find framedBy framing wrongFlags unsupported wrongWidth wrongValue tooDeep contents checked walkAvp walkList admissionFrom memberOutcome missingFrom membersOutcome membersAt groupsOutcome rowsOutcome firstFrom volume firstRequest laterRequest requestOutcome resultOutcome policiesOutcome policyOutcome eachPolicy answerOutcome windowOutcome eachWindow exchangeOutcome walkOf listsOutcome commandOutcome commandVerdict recordOf emptyRecord reading octets avpFlags avpHeader avpOctets listOctets flagsOctet commandHeader commandOctets hasRoom isBlank allBlank isPlaced allPlaced isTree ownSize sizeUnder hasSizes identifiersFit isWellFormed draftOutcome octetsWritten writing outputAfter
+unfolding examples s altered header avp avpOf3GPP sBegins vendorId sGoesOn sEnds sFront numberAt padded lengthOutcome applicationOutcome flagsOutcome headerOutcome avpAt rowsOf admitsOthers dictionary find framedBy framing wrongFlags unsupported wrongWidth wrongValue tooDeep contents checked walkAvp walkList admissionFrom memberOutcome missingFrom membersOutcome membersAt groupsOutcome rowsOutcome firstFrom volume firstRequest laterRequest requestOutcome resultOutcome policiesOutcome policyOutcome eachPolicy answerOutcome windowOutcome eachWindow exchangeOutcome walkOf listsOutcome commandOutcome commandVerdict recordOf emptyRecord reading octets avpFlags avpHeader avpOctets listOctets flagsOctet commandHeader commandOctets hasRoom isBlank allBlank isPlaced allPlaced isTree ownSize sizeUnder hasSizes identifiersFit isWellFormed draftOutcome octetsWritten writing outputAfter
 worked-drafts = refl
