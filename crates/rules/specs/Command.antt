@@ -30,10 +30,12 @@ listsOutcome s xs =
     orElse (rowsOutcome dictionary (commandGrammar (commandFlags s)) (length s) xs)
     (exchangeOutcome (isRequest (commandFlags s)) xs s (length s))
 
+-- a fault of the walk is the answer, however its lists would be judged; else rows and exchange rules
 abbrev pub walkedOutcome : List ℕ → Walked → Outcome
 walkedOutcome s (whole xs) = listsOutcome s xs
 walkedOutcome s (stopped xs v) = Refused v
 
+-- header, walk, rows, exchange rules, windows
 unfoldable pub commandOutcome : List ℕ → Outcome
 commandOutcome s = orElse (headerOutcome s) (walkedOutcome s (walkOf s))
 

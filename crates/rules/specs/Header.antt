@@ -9,6 +9,7 @@ use Rattle.rules.specs.declared.Outcome.the-variants.{Pass}
 use Rattle.rules.specs.Octets.{numberAt, flag}
 use Rattle.rules.specs.Verdict.{refused, refuseIf, orElse}
 
+-- the header's octets
 abbrev pub headerSize : ℕ
 headerSize = 20
 
@@ -85,5 +86,6 @@ flagsOutcome flags =
     (refuseIf (isError flags) (refused 7005 4 0 0)
     Pass)
 
+-- the header's checks together
 unfoldable pub headerOutcome : List ℕ → Outcome
 headerOutcome s = orElse (lengthOutcome s) (orElse (applicationOutcome s) (flagsOutcome (commandFlags s)))
