@@ -11,3 +11,5 @@ pub mod Commands
 pub mod Searches
 -- the user's demands as theorems over the definitions
 pub mod demands
+-- the octets of a well-formed draft, for the writer
+pub mod Sizes

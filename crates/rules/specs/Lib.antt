@@ -18,9 +18,12 @@ pub mod Verdict
 pub mod Record
 pub mod Search
 pub mod Meaning
+pub mod Wire
+pub mod Draft
 pub mod Writer
 pub mod Calls
 -- The book and its listing
 pub mod Book
 -- Commands at the edges, computed
 pub mod Edges
+pub mod WriterEdges

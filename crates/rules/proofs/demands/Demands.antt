@@ -12,11 +12,11 @@ use Rattle.rules.specs.declared.Outcome.the-variants.{Pass}
 use Rattle.rules.specs.Command.{commandOutcome, commandVerdict}
 use Rattle.rules.specs.Record.{emptyRecord, reading}
 use Rattle.rules.specs.Meaning.{meaningOf, meaningOver, Agree}
-use Rattle.rules.specs.Writer.{Draft, draftOutcome, writing, outputAfter}
+use Rattle.rules.specs.Writer.{Draft, ownDraft, draftOutcome, writing, outputAfter}
 use Rattle.rules.specs.Calls.{front, rest, allWritten, outputAfterAll, allAccepted}
 use Rattle.rules.proofs.demands.octets.Digits.{Octets}
 use Rattle.rules.proofs.demands.numbering.Numbering.{command-number, draft-number}
-use Rattle.rules.proofs.demands.again.RoundTrip.{draftOf, record-means, round-trip, written-long, draft-written}
+use Rattle.rules.proofs.demands.again.RoundTrip.{record-means, round-trip, written-long, draft-written}
 use Rattle.rules.proofs.demands.agreement.Agreement.{same-meaning}
 use Rattle.rules.proofs.demands.calls.Calls.{front-is, same-written, output-is}
 use Rattle.rules.proofs.demands.calls.Answers.{empty-read, none-written, length-told, unaltered, nothing-told, same-part, acceptedDrafts, toldLength, SameInOrder, accepted-told, written-told, same-in-order, in-order-same}
@@ -75,10 +75,10 @@ demand-2-record c oct a = record-means c oct (command-number c .0 a)
 -- the draft of a command's own record over its octets is accepted; what the call wrote is an accepted command of the
 -- same meaning, and as long
 pub record Rewritten (c out : List ℕ) : Type 0 where
-  pub call : AcceptedWrite (draftOf c) out
-  pub again : AcceptedCommand (front (draftOf c) out)
-  pub means : meaningOf (front (draftOf c) out) ≡ meaningOf c
-  pub long : writing (draftOf c) out .length ≡ length c
+  pub call : AcceptedWrite (ownDraft c) out
+  pub again : AcceptedCommand (front (ownDraft c) out)
+  pub means : meaningOf (front (ownDraft c) out) ≡ meaningOf c
+  pub long : writing (ownDraft c) out .length ≡ length c
 
 -- "Writing an accepted command's record with its octets, given room, gives an accepted command with the same meaning."
 -- Room is the command's own length. What the call wrote is read off its answer and the output: `front`.
@@ -89,7 +89,7 @@ pub record Rewritten (c out : List ℕ) : Type 0 where
 pub demand-2-rewrite : (c out : List ℕ) → Octets c → AcceptedCommand c → length c ≤ length out → Rewritten c out
 demand-2-rewrite c out oct a room =
     let pass = command-number c .0 a in
-    let d = draftOf c in
+    let d = ownDraft c in
     let k = round-trip c out oct pass room in
     let f = front-is d out in
     record {

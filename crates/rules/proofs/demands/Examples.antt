@@ -18,7 +18,7 @@ use Rattle.rules.specs.Search.{firstFrom}
 use Rattle.rules.specs.Exchange.{volume, firstRequest, laterRequest, requestOutcome, resultOutcome, policiesOutcome, policyOutcome, eachPolicy, answerOutcome, windowOutcome, eachWindow, exchangeOutcome}
 use Rattle.rules.specs.Command.{walkOf, listsOutcome, commandOutcome, commandVerdict}
 use Rattle.rules.specs.Record.{recordOf, emptyRecord, reading}
-use Rattle.rules.specs.Writer.{octets, avpFlags, avpHeader, avpOctets, listOctets, flagsOctet, commandHeader, commandOctets, hasRoom, isBlank, allBlank, isPlaced, allPlaced, isTree, ownSize, sizeUnder, hasSizes, identifiersFit, isWellFormed, draftOutcome, octetsWritten, writing, outputAfter, Draft}
+use Rattle.rules.specs.Writer.{octets, avpFlags, avpHeader, avpOctets, listOctets, flagsOctet, commandHeader, commandOctets, isBlank, allBlank, isPlaced, allPlaced, isTree, membersSize, hasSizes, identifiersFit, nameFits, namesFit, isWellFormed, draftOutcome, octetsWritten, writing, outputAfter, Draft}
 use Rattle.rules.specs.Edges.{header, avp, avpOf3GPP, sBegins, vendorId, sGoesOn, sEnds, sFront, s}
 
 -- S with command flags CF and its first AVP, a Session-Id of one octet, padded with FF
@@ -58,5 +58,5 @@ written x =
 
 -- each example has its answer and its output
 pub worked-drafts : map written examples ≡ map (λ x. x .expected) examples
-unfolding examples s altered header avp avpOf3GPP sBegins vendorId sGoesOn sEnds sFront numberAt padded lengthOutcome applicationOutcome flagsOutcome headerOutcome avpAt rowsOf admitsOthers dictionary find framedBy framing wrongFlags unsupported wrongWidth wrongValue tooDeep contents checked walkAvp walkList admissionFrom memberOutcome missingFrom membersOutcome membersAt groupsOutcome rowsOutcome firstFrom volume firstRequest laterRequest requestOutcome resultOutcome policiesOutcome policyOutcome eachPolicy answerOutcome windowOutcome eachWindow exchangeOutcome walkOf listsOutcome commandOutcome commandVerdict recordOf emptyRecord reading octets avpFlags avpHeader avpOctets listOctets flagsOctet commandHeader commandOctets hasRoom isBlank allBlank isPlaced allPlaced isTree ownSize sizeUnder hasSizes identifiersFit isWellFormed draftOutcome octetsWritten writing outputAfter
+unfolding examples s altered header avp avpOf3GPP sBegins vendorId sGoesOn sEnds sFront numberAt padded lengthOutcome applicationOutcome flagsOutcome headerOutcome avpAt rowsOf admitsOthers dictionary find framedBy framing wrongFlags unsupported wrongWidth wrongValue tooDeep contents checked walkAvp walkList admissionFrom memberOutcome missingFrom membersOutcome membersAt groupsOutcome rowsOutcome firstFrom volume firstRequest laterRequest requestOutcome resultOutcome policiesOutcome policyOutcome eachPolicy answerOutcome windowOutcome eachWindow exchangeOutcome walkOf listsOutcome commandOutcome commandVerdict recordOf emptyRecord reading octets avpFlags avpHeader avpOctets listOctets flagsOctet commandHeader commandOctets isBlank allBlank isPlaced allPlaced isTree membersSize hasSizes identifiersFit nameFits namesFit isWellFormed draftOutcome octetsWritten writing outputAfter
 worked-drafts = refl
