@@ -5,7 +5,7 @@ use mathlib.Core.Path.{_≡_, refl}
 use Prim.Native.Nat.{ℕ}
 use mathlib.Core.List.{List, [], _∷_, _++_, map}
 use Rattle.rules.specs.declared.Verdict.{Verdict}
-use Rattle.rules.specs.Octets.{numberAt, padded}
+use Rattle.rules.specs.Octets.{numberAt, padded, octets}
 use Rattle.rules.specs.Verdict.{verdict}
 use Rattle.rules.specs.Header.{applicationNt, codeBackgroundDataTransfer, vendor3GPP, lengthOutcome, applicationOutcome, flagsOutcome, headerOutcome}
 use Rattle.rules.specs.Avp.{avpAt}
@@ -16,7 +16,6 @@ use Rattle.rules.specs.RowChecks.{admissionFrom, memberOutcome, missingF
 use Rattle.rules.specs.Search.{firstFrom}
 use Rattle.rules.specs.Exchange.{volume, firstRequest, laterRequest, requestOutcome, resultOutcome, policiesOutcome, policyOutcome, eachPolicy, answerOutcome, windowOutcome, eachWindow, exchangeOutcome}
 use Rattle.rules.specs.Command.{walkOf, listsOutcome, commandOutcome, commandVerdict}
-use Rattle.rules.specs.Writer.{octets}
 use Rattle.rules.specs.Book.{digits, isCut, linesFrom, isBook, listing}
 
 -- a header with this version, length field, command flags and application; the identifiers are 1 and 2

@@ -18,10 +18,12 @@ pub mod Verdict
 pub mod Record
 pub mod Search
 pub mod Meaning
+pub mod Agreement
 pub mod Wire
 pub mod Draft
 pub mod Writer
 pub mod Calls
+pub mod Demands
 -- The book and its listing
 pub mod Book
 -- Commands at the edges, computed

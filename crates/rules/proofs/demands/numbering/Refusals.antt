@@ -1,11 +1,11 @@
--- No refusal of the header's checks or of the walk has the number 0: one predicate, kept by each way in which 01 joins
--- its checks. Rows and exchange rules are in ListRefusals, whole commands and drafts in Numbering.
+-- Each refusal of the header's checks and of the walk has a number of the reader's table: one predicate, kept by each
+-- way in which 01 joins its checks. Rows and exchange rules are in ListRefusals, whole commands and drafts in Numbering.
 use mathlib.Core.Path.{_≡_, refl}
-use mathlib.Core.Bool.{Bool, true, false, not, cond}
+use mathlib.Core.Bool.{Bool, true, false, cond}
 use mathlib.Core.List.{List, [], _∷_}
 use Prim.Native.Nat.{ℕ, zero, suc, _+_}
 use borrow.Author.Tests.{ltb-true, ltb-false}
-use lib.Dec.{ltb, leb, eqb}
+use lib.Dec.{ltb, leb}
 use lib.ListN.{length}
 use Rattle.rules.specs.declared.Avp.{Avp}
 use Rattle.rules.specs.declared.Outcome.{Outcome}
@@ -13,7 +13,7 @@ use Rattle.rules.specs.declared.Outcome.the-variants.{Pass, Refused}
 use Rattle.rules.specs.declared.Checked.{Checked}
 use Rattle.rules.specs.declared.Checked.the-variants.{Fault, Plain, Group}
 use Rattle.rules.specs.declared.Definition.{Definition}
-use Rattle.rules.specs.Verdict.{orElse}
+use Rattle.rules.specs.Verdict.{readerNumbers, isAmong, orElse}
 use Rattle.rules.specs.Header.{commandFlags, lengthOutcome, applicationOutcome, flagsOutcome, headerOutcome}
 use Rattle.rules.specs.Avp.{nextAt, avpAt}
 use Rattle.rules.specs.Dictionary.{Entry, defined, isGroup}
@@ -22,18 +22,23 @@ use Rattle.rules.proofs.Walk.{by-cases, list-none, list-end, list-more}
 
 -- ---- outcomes, and what joins them
 
--- a refusal's number is not 0
-unfoldable pub isNumbered : Outcome → Bool
-isNumbered Pass = true
-isNumbered (Refused v) = not (eqb (v .number) 0)
+-- a refusal's number is one of a list
+unfoldable pub numberIn : List ℕ → Outcome → Bool
+numberIn ns Pass = true
+numberIn ns (Refused v) = isAmong ns (v .number)
+
+-- it is one of the reader's
+abbrev pub isNumbered : Outcome → Bool
+isNumbered = numberIn readerNumbers
 
 pub pass-numbered : isNumbered Pass ≡ true
-unfolding isNumbered
+unfolding numberIn
 pass-numbered = refl
 
-pub either : (b : Bool) (o p : Outcome) → isNumbered (cond b o p) ≡ cond b (isNumbered o) (isNumbered p)
-either true o p = refl
-either false o p = refl
+pub either : (ns : List ℕ) (b : Bool) (o p : Outcome)
+    → numberIn ns (cond b o p) ≡ cond b (numberIn ns o) (numberIn ns p)
+either ns true o p = refl
+either ns false o p = refl
 
 pub both : (b : Bool) → cond b true true ≡ true
 both true = refl
@@ -46,15 +51,15 @@ in-turn (Refused v) p f g = f
 -- ---- the header
 
 length-numbered : (s : List ℕ) → isNumbered (lengthOutcome s) ≡ true
-unfolding lengthOutcome isNumbered
+unfolding lengthOutcome numberIn readerNumbers
 length-numbered s = simp (either, both)
 
 application-numbered : (s : List ℕ) → isNumbered (applicationOutcome s) ≡ true
-unfolding applicationOutcome isNumbered
+unfolding applicationOutcome numberIn readerNumbers
 application-numbered s = simp (either, both)
 
 flags-numbered : (flags : ℕ) → isNumbered (flagsOutcome flags) ≡ true
-unfolding flagsOutcome isNumbered
+unfolding flagsOutcome numberIn readerNumbers
 flags-numbered flags = simp (either, both)
 
 pub header-numbered : (s : List ℕ) → isNumbered (headerOutcome s) ≡ true
@@ -75,15 +80,15 @@ stopOf (whole xs) = Pass
 stopOf (stopped xs v) = Refused v
 
 framedBy-numbered : (at left header size vendor code : ℕ) → isNumbered (framedBy at left header size vendor code) ≡ true
-unfolding framedBy isNumbered
+unfolding framedBy numberIn readerNumbers
 framedBy-numbered at left header size vendor code = simp (either, both)
 
 framing-numbered : (s : List ℕ) (at end : ℕ) → isNumbered (framing s at end) ≡ true
-unfolding framing isNumbered
+unfolding framing numberIn readerNumbers
 framing-numbered s at end = simp (either, both, framedBy-numbered)
 
 contents-numbered : (s : List ℕ) (at : ℕ) (a : Avp) (d : Definition) → isNumbered (contents s at a d) ≡ true
-unfolding contents isNumbered
+unfolding contents numberIn readerNumbers
 contents-numbered s at a d = simp (either, both)
 
 settled-numbered : (o : Outcome) (c : Checked) → isNumbered o ≡ true → isNumbered (faultOf c) ≡ true
@@ -92,7 +97,7 @@ settled-numbered Pass c f g = g
 settled-numbered (Refused v) c f g = f
 
 kind-numbered : (b : Bool) (a : Avp) → isNumbered (faultOf (cond b (Group a) (Plain a))) ≡ true
-unfolding isNumbered
+unfolding numberIn readerNumbers
 kind-numbered true a = refl
 kind-numbered false a = refl
 
@@ -128,14 +133,14 @@ entered-numbered list depth count (Group a) h f =
 
 avp-numbered : (list : ℕ → ℕ → ℕ → ℕ → Walked) (dict : List Entry) (s : List ℕ) → AllNumbered list
     → AllNumbered (walkAvp list dict s)
-unfolding walkAvp isNumbered
+unfolding walkAvp numberIn readerNumbers
 avp-numbered list dict s h at end depth count =
     let c = checked-numbered dict s at end depth in
     by-cases (leb mostAvps count) (λ k. rw k)
     (λ k. rw k (entered-numbered list depth count (checked dict s at end depth) h c))
 
 pub walk-numbered : (n : ℕ) (dict : List Entry) (s : List ℕ) → AllNumbered (walkList n dict s)
-unfolding isNumbered
+unfolding numberIn readerNumbers
 walk-numbered zero dict s at end depth count = rw (list-none dict s at end depth count)
 walk-numbered (suc n) dict s at end depth count =
     let ih = walk-numbered n dict s in

@@ -10,12 +10,12 @@ use lib.ListN.{length, drop}
 use Rattle.rules.specs.declared.Avp.{Avp}
 use Rattle.rules.specs.declared.Outcome.{Outcome}
 use Rattle.rules.specs.declared.Outcome.the-variants.{Pass, Refused}
-use Rattle.rules.specs.Octets.{padded}
+use Rattle.rules.specs.Octets.{AreOctets, padded}
 use Rattle.rules.specs.Avp.{codeAt, lengthAt, vendorAt, nextAt, avpAt}
 use Rattle.rules.specs.Dictionary.{Entry, defined, isGroup}
 use Rattle.rules.specs.Walk.{framing, contents, Walked, whole, stopped, after, andThen, walkAvp, walkList}
 use Rattle.rules.specs.Meaning.{isReadGroup}
-use Rattle.rules.specs.Writer.{avpHeader}
+use Rattle.rules.specs.Wire.{avpHeader}
 use Rattle.rules.proofs.Fields.{avpAt-start, avpAt-end, avpAt-depth}
 use Rattle.rules.proofs.Walk.{by-cases, checked-frame, checked-content, checked-group, checked-plain, avp-many, avp-fault, avp-plain, avp-group, list-end, list-more}
 use Rattle.rules.proofs.Passed.{framed, group-is}
@@ -23,7 +23,6 @@ use Rattle.rules.proofs.demands.items.Items.{Item, octetsOf, step, avps
 use Rattle.rules.proofs.demands.items.Sequences.{octets-nil, octets-cons, octets-append, length-cons, length-both, avps-nil, avps-cons, avps-append}
 use Rattle.rules.proofs.demands.written.Cells.{never-whole, after-whole}
 use Rattle.rules.proofs.demands.items.Lists.{listed-nil, words, list-plain, list-group}
-use Rattle.rules.proofs.demands.octets.Digits.{Octets}
 use Rattle.rules.proofs.demands.read.OneItem.{headerAt, paddingAt, groupAt, plainAt, Passing, header-octets, avp-is, group-fit, group-none, group-step, group-next, plain-fit, plain-step, plain-octets}
 
 -- ---- walks that end whole
@@ -137,7 +136,7 @@ turn dict s n at end depth count xs more e w f =
     ap (λ (v : Walked). andThen v (λ (k : ℕ). walkList n dict s (nextAt s at) end depth (count + k))) (sym f)
     ∙ sym (list-more n dict s at end depth count more) ∙ e
 
-module _ (dict : List Entry) (s : List ℕ) (oct : Octets s) (n : ℕ) (ih : Sound dict s n)
+module _ (dict : List Entry) (s : List ℕ) (oct : AreOctets s) (n : ℕ) (ih : Sound dict s n)
     (at end depth count : ℕ) (xs : List Avp) (low : 1 ≤ depth) (most : depth ≤ 4) (inside : end ≤ length s)
     (enough : end - at ≤ suc n) (more : at < end) (few : count < 256)
     (e : walkList (suc n) dict s at end depth count ≡ whole xs)
@@ -201,7 +200,7 @@ module _ (dict : List Entry) (s : List ℕ) (oct : Octets s) (n : ℕ) (ih : Sou
         never-whole (turn dict s n at end depth count xs more e (stopped [] v)
         (avp-fault (walkList n dict s) dict s at end depth count few (checked-frame dict s at end depth f)))
 
-sound-step : (dict : List Entry) (s : List ℕ) (n : ℕ) → Octets s → Sound dict s n → Sound dict s (suc n)
+sound-step : (dict : List Entry) (s : List ℕ) (n : ℕ) → AreOctets s → Sound dict s n → Sound dict s (suc n)
 sound-step dict s n oct ih at end depth count xs low most order inside enough e =
     by-cases (ltb at end)
     (λ m.
@@ -218,7 +217,7 @@ sound-step dict s n oct ih at end depth count xs low most order inside enough e 
     found-end dict s at end depth xs order past (sym (list-end (suc n) dict s at end depth count past) ∙ e))
 
 -- a walk that ends whole found items that make a list
-pub sound : (dict : List Entry) (s : List ℕ) (n : ℕ) → Octets s → Sound dict s n
+pub sound : (dict : List Entry) (s : List ℕ) (n : ℕ) → AreOctets s → Sound dict s n
 sound dict s zero oct = λ at end depth count xs low most order inside enough e.
     found-end dict s at end depth xs order (omega arith)
     (sym (list-end zero dict s at end depth count (omega arith)) ∙ e)

@@ -9,12 +9,12 @@ use borrow.Author.Tests.{le-ltb, eqb-true, not-false}
 use lib.Dec.{ltb, eqb}
 use lib.ListN.{drop}
 use Rattle.rules.specs.declared.Outcome.the-variants.{Pass}
-use Rattle.rules.specs.Octets.{padded}
+use Rattle.rules.specs.Octets.{padded, octets}
 use Rattle.rules.specs.Avp.{codeAt, flagsAt, flagV, flagM, flagP, lengthAt, headerOf, vendorAt, nextAt, avpAt}
 use Rattle.rules.specs.Dictionary.{Entry}
 use Rattle.rules.specs.Walk.{framing}
 use Rattle.rules.specs.Meaning.{Cell}
-use Rattle.rules.specs.Writer.{octets, hasVendor, avpFlags, vendorOctets, avpHeader}
+use Rattle.rules.specs.Wire.{hasVendor, avpFlags, vendorOctets, avpHeader}
 use Rattle.rules.proofs.Fields.{header-least, padded-header}
 use Rattle.rules.proofs.Walk.{by-cases, framedBy-pass}
 use Rattle.rules.proofs.demands.items.Items.{Item, avpOf, Fit}

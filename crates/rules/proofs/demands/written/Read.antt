@@ -16,7 +16,7 @@ use Rattle.rules.specs.Verdict.{verdict}
 use Rattle.rules.specs.Avp.{headerOf, nextAt, avpAt}
 use Rattle.rules.specs.Dictionary.{Entry}
 use Rattle.rules.specs.Walk.{mostAvps, framing, stopped, after, andThen, walkAvp, walkList}
-use Rattle.rules.specs.Writer.{hasVendor, avpHeader}
+use Rattle.rules.specs.Wire.{hasVendor, avpHeader}
 use Rattle.rules.proofs.Fields.{header-least}
 use Rattle.rules.proofs.Walk.{by-cases, checked-content, checked-group, checked-plain, avp-many, avp-fault, avp-plain, avp-group, list-end, list-more}
 use Rattle.rules.proofs.demands.items.Items.{Item, octetsOf, step, avpOf, Fit, Listed, judged}
