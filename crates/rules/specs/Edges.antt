@@ -9,7 +9,7 @@ use Rattle.rules.specs.Header.{lengthOutcome, applicationOutcome, flagsO
 use Rattle.rules.specs.Avp.{avpAt}
 use Rattle.rules.specs.Rows.{rowsOf, admitsOthers}
 use Rattle.rules.specs.Dictionary.{dictionary, find}
-use Rattle.rules.specs.Walk.{framedBy, framing, wrongFlags, unsupported, wrongWidth, wrongValue, tooDeep, contents, checked, walkAvp, walkList}
+use Rattle.rules.specs.Walk.{framing, wrongFlags, unsupported, wrongWidth, wrongValue, tooDeep, contents, checked, walkAvp, walkList}
 use Rattle.rules.specs.RowChecks.{admissionFrom, memberOutcome, missingFrom, membersOutcome, membersAt, groupsOutcome, rowsOutcome}
 use Rattle.rules.specs.Search.{firstFrom}
 use Rattle.rules.specs.Exchange.{volume, firstRequest, laterRequest, requestOutcome, resultOutcome, policiesOutcome, policyOutcome, eachPolicy, answerOutcome, windowOutcome, eachWindow, exchangeOutcome}
@@ -78,7 +78,7 @@ verdicts cs = map (λ c. commandVerdict (c .octets)) cs
 
 -- each marked case has its answer
 pub edges : verdicts cases ≡ answers cases
-unfolding verdicts answers cases case header h avp sFront sLast numberAt padded lengthOutcome applicationOutcome flagsOutcome headerOutcome avpAt rowsOf admitsOthers dictionary find framedBy framing wrongFlags unsupported wrongWidth wrongValue tooDeep contents checked walkAvp walkList admissionFrom memberOutcome missingFrom membersOutcome membersAt groupsOutcome rowsOutcome firstFrom volume firstRequest laterRequest requestOutcome resultOutcome policiesOutcome policyOutcome eachPolicy answerOutcome windowOutcome eachWindow exchangeOutcome walkOf listsOutcome commandOutcome commandVerdict
+unfolding verdicts answers cases case header h avp sFront sLast numberAt padded lengthOutcome applicationOutcome flagsOutcome headerOutcome avpAt rowsOf admitsOthers dictionary find framing wrongFlags unsupported wrongWidth wrongValue tooDeep contents checked walkAvp walkList admissionFrom memberOutcome missingFrom membersOutcome membersAt groupsOutcome rowsOutcome firstFrom volume firstRequest laterRequest requestOutcome resultOutcome policiesOutcome policyOutcome eachPolicy answerOutcome windowOutcome eachWindow exchangeOutcome walkOf listsOutcome commandOutcome commandVerdict
 edges = refl
 
 -- the book that 01 works out, and its listing: "NTB 1", "1 5 5005 20 0 263", "end 1 0"
@@ -92,5 +92,5 @@ bookListing =
     101 ∷ 110 ∷ 100 ∷ 32 ∷ 49 ∷ 32 ∷ 48 ∷ 10 ∷ []
 
 pub worked-book : listing book ≡ bookListing
-unfolding book bookListing header h numberAt padded lengthOutcome applicationOutcome flagsOutcome headerOutcome avpAt rowsOf admitsOthers dictionary find framedBy framing wrongFlags unsupported wrongWidth wrongValue tooDeep contents checked walkAvp walkList admissionFrom memberOutcome missingFrom membersOutcome membersAt groupsOutcome rowsOutcome firstFrom volume firstRequest laterRequest requestOutcome resultOutcome policiesOutcome policyOutcome eachPolicy answerOutcome windowOutcome eachWindow exchangeOutcome walkOf listsOutcome commandOutcome commandVerdict digits isCut linesFrom isBook listing
+unfolding book bookListing header h numberAt padded lengthOutcome applicationOutcome flagsOutcome headerOutcome avpAt rowsOf admitsOthers dictionary find framing wrongFlags unsupported wrongWidth wrongValue tooDeep contents checked walkAvp walkList admissionFrom memberOutcome missingFrom membersOutcome membersAt groupsOutcome rowsOutcome firstFrom volume firstRequest laterRequest requestOutcome resultOutcome policiesOutcome policyOutcome eachPolicy answerOutcome windowOutcome eachWindow exchangeOutcome walkOf listsOutcome commandOutcome commandVerdict digits isCut linesFrom isBook listing
 worked-book = refl

@@ -12,7 +12,7 @@ use Rattle.rules.specs.Header.{lengthOutcome, applicationOutcome, flagsO
 use Rattle.rules.specs.Avp.{avpAt}
 use Rattle.rules.specs.Rows.{rowsOf, admitsOthers}
 use Rattle.rules.specs.Dictionary.{dictionary, find}
-use Rattle.rules.specs.Walk.{framedBy, framing, wrongFlags, unsupported, wrongWidth, wrongValue, tooDeep, contents, checked, walkAvp, walkList}
+use Rattle.rules.specs.Walk.{framing, wrongFlags, unsupported, wrongWidth, wrongValue, tooDeep, contents, checked, walkAvp, walkList}
 use Rattle.rules.specs.RowChecks.{admissionFrom, memberOutcome, missingFrom, membersOutcome, membersAt, groupsOutcome, rowsOutcome}
 use Rattle.rules.specs.Search.{firstFrom}
 use Rattle.rules.specs.Exchange.{volume, firstRequest, laterRequest, requestOutcome, resultOutcome, policiesOutcome, policyOutcome, eachPolicy, answerOutcome, windowOutcome, eachWindow, exchangeOutcome}
@@ -61,5 +61,5 @@ written x =
 
 -- each example has its answer and its output
 pub worked-drafts : map written examples ≡ map (λ x. x .expected) examples
-unfolding examples s altered header sFront sLast numberAt padded lengthOutcome applicationOutcome flagsOutcome headerOutcome avpAt rowsOf admitsOthers dictionary find framedBy framing wrongFlags unsupported wrongWidth wrongValue tooDeep contents checked walkAvp walkList admissionFrom memberOutcome missingFrom membersOutcome membersAt groupsOutcome rowsOutcome firstFrom volume firstRequest laterRequest requestOutcome resultOutcome policiesOutcome policyOutcome eachPolicy answerOutcome windowOutcome eachWindow exchangeOutcome walkOf listsOutcome commandOutcome commandVerdict recordOf emptyRecord reading octets avpFlags avpHeader avpOctets listOctets flagsOctet commandHeader commandOctets hasRoom isBlank allBlank isPlaced allPlaced isTree ownSize sizeUnder hasSizes identifiersFit isWellFormed draftOutcome octetsWritten writing outputAfter
+unfolding examples s altered header sFront sLast numberAt padded lengthOutcome applicationOutcome flagsOutcome headerOutcome avpAt rowsOf admitsOthers dictionary find framing wrongFlags unsupported wrongWidth wrongValue tooDeep contents checked walkAvp walkList admissionFrom memberOutcome missingFrom membersOutcome membersAt groupsOutcome rowsOutcome firstFrom volume firstRequest laterRequest requestOutcome resultOutcome policiesOutcome policyOutcome eachPolicy answerOutcome windowOutcome eachWindow exchangeOutcome walkOf listsOutcome commandOutcome commandVerdict recordOf emptyRecord reading octets avpFlags avpHeader avpOctets listOctets flagsOctet commandHeader commandOctets hasRoom isBlank allBlank isPlaced allPlaced isTree ownSize sizeUnder hasSizes identifiersFit isWellFormed draftOutcome octetsWritten writing outputAfter
 worked-drafts = refl
