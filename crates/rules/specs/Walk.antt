@@ -153,7 +153,7 @@ unfoldable pub walkAvp : (Standing → Walked) → List Entry → List ℕ → S
 walkAvp list dict s w = entered list w (checked dict s w)
 
 -- the list walk: a list reads its AVPs up to its end. The first argument bounds the steps; as many as there are octets left
--- are enough
+-- are enough, and more change nothing (proofs/Steps)
 unfoldable pub walkList : ℕ → List Entry → List ℕ → Standing → Walked
 walkList zero dict s w = whole []
 walkList (suc n) dict s w =
