@@ -11,7 +11,7 @@ use Rattle.rules.specs.Header.{applicationNt, lengthOutcome, application
 use Rattle.rules.specs.Avp.{avpAt}
 use Rattle.rules.specs.Rows.{rowsOf, admitsOthers}
 use Rattle.rules.specs.Dictionary.{dictionary, find}
-use Rattle.rules.specs.Walk.{framedBy, framing, wrongFlags, unsupported, wrongWidth, wrongValue, tooDeep, contents, checked, walkAvp, walkList}
+use Rattle.rules.specs.Walk.{framing, wrongFlags, unsupported, wrongWidth, wrongValue, tooDeep, contents, checked, walkAvp, walkList}
 use Rattle.rules.specs.RowChecks.{admissionFrom, memberOutcome, missingFrom, membersOutcome, membersAt, groupsOutcome, rowsOutcome}
 use Rattle.rules.specs.Search.{firstFrom}
 use Rattle.rules.specs.Exchange.{volume, firstRequest, laterRequest, requestOutcome, resultOutcome, policiesOutcome, policyOutcome, eachPolicy, answerOutcome, windowOutcome, eachWindow, exchangeOutcome}
@@ -94,7 +94,7 @@ worked x = record {
 
 -- each example has its answers, its output and its accepted drafts
 pub worked-calls : map worked examples ≡ examples
-unfolding examples s altered header avp avpOf3GPP sBegins vendorId sGoesOn sEnds sFront answersOf outputAfterAll acceptedDrafts numberAt padded lengthOutcome applicationOutcome flagsOutcome headerOutcome avpAt rowsOf admitsOthers dictionary find framedBy framing wrongFlags unsupported wrongWidth wrongValue tooDeep contents checked walkAvp walkList admissionFrom memberOutcome missingFrom membersOutcome membersAt groupsOutcome rowsOutcome firstFrom volume firstRequest laterRequest requestOutcome resultOutcome policiesOutcome policyOutcome eachPolicy answerOutcome windowOutcome eachWindow exchangeOutcome walkOf listsOutcome commandOutcome commandVerdict recordOf emptyRecord reading octets avpFlags avpHeader avpOctets listOctets flagsOctet commandHeader commandOctets isBlank allBlank isPlaced allPlaced isTree membersSize hasSizes identifiersFit nameFits namesFit isWellFormed draftOutcome octetsWritten writing outputAfter
+unfolding examples s altered header avp avpOf3GPP sBegins vendorId sGoesOn sEnds sFront answersOf outputAfterAll acceptedDrafts numberAt padded lengthOutcome applicationOutcome flagsOutcome headerOutcome avpAt rowsOf admitsOthers dictionary find framing wrongFlags unsupported wrongWidth wrongValue tooDeep contents checked walkAvp walkList admissionFrom memberOutcome missingFrom membersOutcome membersAt groupsOutcome rowsOutcome firstFrom volume firstRequest laterRequest requestOutcome resultOutcome policiesOutcome policyOutcome eachPolicy answerOutcome windowOutcome eachWindow exchangeOutcome walkOf listsOutcome commandOutcome commandVerdict recordOf emptyRecord reading octets avpFlags avpHeader avpOctets listOctets flagsOctet commandHeader commandOctets isBlank allBlank isPlaced allPlaced isTree membersSize hasSizes identifiersFit nameFits namesFit isWellFormed draftOutcome octetsWritten writing outputAfter
 worked-calls = refl
 
 -- ---- agreement
@@ -116,5 +116,5 @@ comparisons =
     ∷ compare (changed s 4 (0x40 ∷ [])) false ∷ compare (take 144 s) false ∷ []
 
 pub worked-agreement : map (λ x. agree s (x .other)) comparisons ≡ map (λ x. x .agrees) comparisons
-unfolding comparisons s altered header avp avpOf3GPP sBegins vendorId sGoesOn sEnds sFront fillsOne agreesBelow agree numberAt padded avpAt dictionary find framedBy framing wrongFlags unsupported wrongWidth wrongValue tooDeep contents checked walkAvp walkList walkOf octets
+unfolding comparisons s altered header avp avpOf3GPP sBegins vendorId sGoesOn sEnds sFront fillsOne agreesBelow agree numberAt padded avpAt dictionary find framing wrongFlags unsupported wrongWidth wrongValue tooDeep contents checked walkAvp walkList walkOf octets
 worked-agreement = refl
