@@ -8,9 +8,11 @@ ghost use Rattle.rules.specs.Search.{blank};
 ghost use Rattle.rules.specs.Avp.{named};
 ghost use Rattle.rules.specs.Record.{inRoom, recordOf, emptyRecord, dataAt, searchRecord};
 ghost use Rattle.log.specs.Log.{avpsIn};
+use octets::has_flag;
 use rules::Avp;
 use rules::Found;
 use rules::Record;
+use rules::flags;
 use rules::limits;
 
 // An array of 256 blank places.
@@ -57,15 +59,11 @@ pub(crate) fn record_of(s: &[u8], log: &[u32; limits::LOG_NUMBERS], count: usize
     ensures { λ r. ⌜ r ≡ recordOf (now (s .entry)) (avpsIn (now (log .entry)) count) ⌝ }
 {
     let flags = s[4];
-    let r = flags / 128 % 2;
-    let p = flags / 64 % 2;
-    let e = flags / 32 % 2;
-    let t = flags / 16 % 2;
     Record {
-        r: r == 1,
-        p: p == 1,
-        e: e == 1,
-        t: t == 1,
+        r: has_flag(flags, flags::REQUEST),
+        p: has_flag(flags, flags::PROXIABLE),
+        e: has_flag(flags, flags::ERROR),
+        t: has_flag(flags, flags::RETRANSMITTED),
         hop_by_hop: octets::number4(s, 12),
         end_to_end: octets::number4(s, 16),
         count: count as u32,

@@ -10,6 +10,7 @@ pub mod Walk
 pub mod Passed
 pub mod Header
 pub mod Commands
+pub mod Steps
 pub mod Searches
 -- the user's demands as theorems over the definitions
 pub mod demands

@@ -12,7 +12,7 @@ pub mod read
 pub mod agreement
 -- the round trip: a command written anew from its record
 pub mod again
--- no refusal has the number 0
+-- the number that comes back: one of 01's table, and 0 exactly with acceptance
 pub mod numbering
 -- lists of write calls, and what their answers tell
 pub mod calls

@@ -1,12 +1,13 @@
 -- 01, The record and the writer: lists of write calls. Each call gets the part of the output behind the octets written so
 -- far, as the call before left it. What a call answers and leaves is what the writer's contract cites.
-use Prim.Native.Nat.{ℕ}
+use mathlib.Core.Path.{_≡_}
+use Prim.Native.Nat.{ℕ, _+_}
 use mathlib.Core.List.{List, [], _∷_, _++_}
-use lib.ListN.{length, take, drop}
-use Rattle.rules.specs.declared.Outcome.{Outcome}
-use Rattle.rules.specs.declared.Outcome.the-variants.{Pass, Refused}
-use Rattle.rules.specs.Meaning.{Meaning}
-use Rattle.rules.specs.Writer.{Draft, draftMeaning, draftOutcome, writing, outputAfter}
+use mathlib.Core.Bool.{cond}
+use lib.Dec.{eqb}
+use lib.ListN.{take, drop}
+use Rattle.rules.specs.Draft.{Draft, draftMeaning}
+use Rattle.rules.specs.Writer.{writing, outputAfter}
 
 -- what a call wrote: of its output as it stands afterwards, as much as its answer says
 abbrev pub front : Draft → List ℕ → List ℕ
@@ -26,12 +27,23 @@ unfoldable pub outputAfterAll : List Draft → List ℕ → List ℕ
 outputAfterAll [] out = out
 outputAfterAll (d ∷ ds) out = front d out ++ outputAfterAll ds (rest d out)
 
--- the meaning of a draft, where its call was accepted
-abbrev pub acceptedBy : Outcome → Draft → List Meaning
-acceptedBy Pass d = draftMeaning d ∷ []
-acceptedBy (Refused v) d = []
+-- the written lengths that came back, together
+unfoldable pub toldLength : List Draft → List ℕ → ℕ
+toldLength [] out = 0
+toldLength (d ∷ ds) out = writing d out .length + toldLength ds (rest d out)
 
--- the meanings of the accepted drafts, in order
-unfoldable pub allAccepted : List Draft → List ℕ → List Meaning
-allAccepted [] out = []
-allAccepted (d ∷ ds) out = acceptedBy (draftOutcome d (length out)) d ++ allAccepted ds (rest d out)
+-- a draft, where its call came back with the number 0
+abbrev pub ifAccepted : Draft → List ℕ → List Draft
+ifAccepted d out = cond (eqb (writing d out .verdict .number) 0) (d ∷ []) []
+
+-- the accepted drafts, in order
+unfoldable pub acceptedDrafts : List Draft → List ℕ → List Draft
+acceptedDrafts [] out = []
+acceptedDrafts (d ∷ ds) out = ifAccepted d out ++ acceptedDrafts ds (rest d out)
+
+-- equally many in both lists, and taken in order of the same meaning
+abbrev pub SameInOrder : List Draft → List Draft → Type 0
+SameInOrder [] [] = Unit {0}
+SameInOrder [] (e ∷ es) = ⊥
+SameInOrder (d ∷ ds) [] = ⊥
+SameInOrder (d ∷ ds) (e ∷ es) = (draftMeaning d ≡ draftMeaning e) × SameInOrder ds es

@@ -1,15 +1,11 @@
--- 01, The record and the writer: the meaning of an accepted command, and the agreement of two commands.
-use mathlib.Core.Path.{_≡_}
-use Prim.Native.Nat.{ℕ, _+_, _-_, _/_, _<_}
-use mathlib.Core.List.{List, [], _∷_, map}
-use mathlib.Core.Bool.{Bool, false, cond, _&&_, _||_}
-use lib.ListN.{length, getD, take, drop}
-use lib.Dec.{ltb, leb}
+-- 01, The record and the writer: the meaning of an accepted command, and of a record over octets.
+use Prim.Native.Nat.{ℕ}
+use mathlib.Core.List.{List, [], map}
+use mathlib.Core.Bool.{Bool, cond}
+use lib.ListN.{length, take, drop}
 use Rattle.rules.specs.declared.Avp.{Avp}
 use Rattle.rules.specs.declared.Record.{Record}
-use Rattle.rules.specs.Octets.{padded}
 use Rattle.rules.specs.Header.{commandFlags, isRequest, isProxiable, isError, isRetransmitted, hopByHop, endToEnd}
-use Rattle.rules.specs.Avp.{placeOf, endOf}
 use Rattle.rules.specs.Dictionary.{Entry, dictionary, find, isGroup}
 use Rattle.rules.specs.Walk.{avpsOf}
 use Rattle.rules.specs.Command.{walkOf}
@@ -75,16 +71,3 @@ meaningOver r s = record {
   count = r .count;
   cells = map (cellOf dictionary s) (recorded r);
 }
-
--- padding is what follows an AVP of the walk to fill its length to a multiple of four
-unfoldable pub isPadding : List Avp → ℕ → Bool
-isPadding [] i = false
-isPadding (a ∷ xs) i = leb (endOf a) i && ltb i (placeOf a + padded (endOf a - placeOf a)) || isPadding xs i
-
--- two commands agree: equally long, and each octet that is padding in neither is the same in both, of the flags octet
--- only R, P, E, T
-pub record Agree (a b : List ℕ) : Type 0 where
-  pub long : length a ≡ length b
-  pub flags : commandFlags a / 16 ≡ commandFlags b / 16
-  pub same : (i : ℕ) → i < length a → (i ≡ 4 → ⊥) → isPadding (avpsOf (walkOf a)) i ≡ false → isPadding (avpsOf (walkOf b)) i ≡ false
-      → getD a i 0 ≡ getD b i 0

@@ -4,8 +4,12 @@ use mathlib.Core.Path.{_≡_}
 use Prim.Native.Nat.{ℕ, zero, suc, _+_, _*_, _/_, _%_, _^_, _<_}
 use mathlib.Core.List.{List, [], _∷_}
 use mathlib.Core.Bool.{Bool, cond}
-use lib.ListN.{length, take, drop}
+use lib.ListN.{length, take, drop, getD}
 use lib.Dec.{leb, eqb}
+
+-- each number of a list is an octet; true of every slice of u8, so it asks nothing of a caller
+abbrev pub AreOctets : List ℕ → Type 0
+AreOctets s = (i : ℕ) → getD s i 0 < 256
 
 -- the number that octets stand for, big-endian
 abbrev pub number : List ℕ → ℕ

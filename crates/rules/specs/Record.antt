@@ -32,7 +32,7 @@ recordOf s xs = record {
   avps = inRoom xs;
 }
 
--- all numbers 0
+-- the empty record: all numbers 0
 unfoldable pub emptyRecord : Record
 emptyRecord = record {
   r = Bool.false;
@@ -45,6 +45,7 @@ emptyRecord = record {
   avps = replicate mostAvps blank;
 }
 
+-- the record that comes back: with a refusal the empty one
 abbrev pub recordBy : List ℕ → Outcome → Record
 recordBy s Pass = recordOf s (avpsOf (walkOf s))
 recordBy s (Refused v) = emptyRecord
@@ -65,5 +66,6 @@ partOf s a = cond (leb (a .start + a .length) (length s)) (take (a .length) (dro
 unfoldable pub dataAt : Record → ℕ → List ℕ → List ℕ
 dataAt r i s = cond (ltb i (min (r .count) mostAvps)) (partOf s (avpIn (r .avps) i)) []
 
+-- the first AVP at depth 1 with a vendor and code, among those of the record
 unfoldable pub searchRecord : Record → ℕ → ℕ → Found
 searchRecord r vendor code = search (recorded r) vendor code

@@ -1,9 +1,36 @@
 -- What comes back (01, What comes back), and how the first fault is the answer.
 use Prim.Native.Nat.{ℕ}
-use mathlib.Core.Bool.{Bool, cond}
+use mathlib.Core.List.{List, [], _∷_, _++_}
+use mathlib.Core.Bool.{Bool, false, cond, _||_}
+use lib.Dec.{eqb}
 use Rattle.rules.specs.declared.Verdict.{Verdict}
 use Rattle.rules.specs.declared.Outcome.{Outcome}
 use Rattle.rules.specs.declared.Outcome.the-variants.{Pass, Refused}
+
+-- the table: the numbers of the reader's refusals. Those from 7001 are the lab's and never go on the wire
+unfoldable pub readerNumbers : List ℕ
+readerNumbers =
+    -- command, application, header bits, AVP bits
+    3001 ∷ 3007 ∷ 3008 ∷ 3009
+    -- unsupported, value, missing, not allowed, too many
+    ∷ 5001 ∷ 5004 ∷ 5005 ∷ 5008 ∷ 5009
+    -- version, AVP length, command length
+    ∷ 5011 ∷ 5014 ∷ 5015
+    -- longer than 16,384, which the writer says too; 257th AVP, group at depth 4; error answer
+    ∷ 7001 ∷ 7002 ∷ 7003 ∷ 7005 ∷ []
+
+-- the table's numbers that only the writer gives: output too short, malformed draft
+unfoldable pub writerOnlyNumbers : List ℕ
+writerOnlyNumbers = 7004 ∷ 7006 ∷ []
+
+-- the numbers of the writer's refusals: its own, and the reader's for the octets that it would write
+abbrev pub writerNumbers : List ℕ
+writerNumbers = writerOnlyNumbers ++ readerNumbers
+
+-- whether a number is one of a list
+abbrev pub isAmong : List ℕ → ℕ → Bool
+isAmong [] n = false
+isAmong (m ∷ ms) n = eqb n m || isAmong ms n
 
 -- number, place, vendor, code
 abbrev pub verdict : ℕ → ℕ → ℕ → ℕ → Verdict

@@ -4,3 +4,5 @@ pub mod Paddings
 pub mod Places
 pub mod Alike
 pub mod Agreement
+-- the claim of agreement and the test that computes it
+pub mod Tested

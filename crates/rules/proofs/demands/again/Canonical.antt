@@ -8,20 +8,21 @@ use native.Mathlib.Omega.{arith}
 use lib.ListN.{length, drop, length-map, length-replicate}
 use Rattle.rules.specs.declared.Avp.{Avp}
 use Rattle.rules.specs.declared.Outcome.the-variants.{Pass}
+use Rattle.rules.specs.Octets.{AreOctets}
 use Rattle.rules.specs.Header.{lengthField, commandFlags, isRequest, isProxiable, isError, flagsOutcome, headerOutcome}
 use Rattle.rules.specs.Dictionary.{Entry, dictionary}
 use Rattle.rules.specs.Walk.{whole, avpsOf}
 use Rattle.rules.specs.Exchange.{exchangeOutcome}
 use Rattle.rules.specs.Command.{walkOf, listsOutcome, commandOutcome}
 use Rattle.rules.specs.Meaning.{Cell, meaningOf, cellOf}
-use Rattle.rules.specs.Writer.{listOctets, commandOctets}
+use Rattle.rules.specs.Wire.{listOctets, commandOctets}
 use Rattle.rules.proofs.Header.{length-pass, application-pass}
 use Rattle.rules.proofs.demands.items.Items.{Item, cellIn, octetsOf, avpsAt, All, Fit, Listed, judged}
 use Rattle.rules.proofs.demands.items.Trees.{sizeOf}
 use Rattle.rules.proofs.demands.items.Lists.{tights, size-octets}
 use Rattle.rules.proofs.demands.written.Headers.{command-long, command-list}
 use Rattle.rules.proofs.demands.written.Writing.{zeroed, cells-zeroed, list-octets, Writable, head-written, walk-written, meaning-written}
-use Rattle.rules.proofs.demands.octets.Digits.{Octets, numberAt-below}
+use Rattle.rules.proofs.demands.octets.Digits.{numberAt-below}
 use Rattle.rules.proofs.demands.read.Commands.{Accepted, cells-are}
 use Rattle.rules.proofs.demands.again.Contents.{four-4203, four-4205, four-4206}
 use Rattle.rules.proofs.demands.again.Passes.{Passes, passes-of, judged-whole, avps-same, passes-again, numbers-again}
@@ -71,7 +72,7 @@ lists-same : (s t : List ℕ) (xs : List Avp) → length s ≡ length t
 unfolding listsOutcome
 lists-same s t xs l r e = rw (l, r, e (isRequest (commandFlags t)) (length t))
 
-module _ (c : List ℕ) (oct : Octets c) (k : Accepted c) where
+module _ (c : List ℕ) (oct : AreOctets c) (k : Accepted c) where
   -- the octets that the writer gives
   abbrev again : List ℕ
   again = commandOctets (meaningOf c)

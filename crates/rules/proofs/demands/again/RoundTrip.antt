@@ -11,6 +11,7 @@ use lib.Seq.{take-at, drop-at}
 use Rattle.rules.specs.declared.Avp.{Avp}
 use Rattle.rules.specs.declared.Record.{Record}
 use Rattle.rules.specs.declared.Outcome.the-variants.{Pass}
+use Rattle.rules.specs.Octets.{AreOctets}
 use Rattle.rules.specs.Header.{longestCommand}
 use Rattle.rules.specs.Avp.{endOf}
 use Rattle.rules.specs.Dictionary.{Entry, dictionary}
@@ -27,7 +28,7 @@ use Rattle.rules.proofs.demands.items.Items.{Item, cellIn, octetsOf, st
 use Rattle.rules.proofs.demands.items.Trees.{isGroupCell}
 use Rattle.rules.proofs.demands.items.Sequences.{length-cons, avps-nil, avps-cons, length-avps}
 use Rattle.rules.proofs.demands.written.Drafts.{WellFormed, is-well-formed}
-use Rattle.rules.proofs.demands.octets.Digits.{Octets, numberAt-below}
+use Rattle.rules.proofs.demands.octets.Digits.{numberAt-below}
 use Rattle.rules.proofs.demands.read.Commands.{Accepted, accepted, avps-are, cells-are}
 use Rattle.rules.proofs.demands.again.Canonical.{again-long, again-accepted, again-means}
 
@@ -86,7 +87,7 @@ names-all dict (x ∷ xs) at f =
 
 -- ---- a command's own record, over its octets
 
-module _ (c : List ℕ) (oct : Octets c) (pass : commandOutcome c ≡ Pass) where
+module _ (c : List ℕ) (oct : AreOctets c) (pass : commandOutcome c ≡ Pass) where
   read : Accepted c
   read = accepted c oct pass
 
@@ -173,7 +174,7 @@ pub record Kept (c out : List ℕ) : Type 0 where
   pub accepts : commandOutcome (octetsWritten (ownDraft c) (length out)) ≡ Pass
   pub means : meaningOf (octetsWritten (ownDraft c) (length out)) ≡ meaningOf c
 
-pub round-trip : (c out : List ℕ) → Octets c → commandOutcome c ≡ Pass → length c ≤ length out → Kept c out
+pub round-trip : (c out : List ℕ) → AreOctets c → commandOutcome c ≡ Pass → length c ≤ length out → Kept c out
 round-trip c out oct pass room =
     let w = draft-written c oct pass out room in
     record {

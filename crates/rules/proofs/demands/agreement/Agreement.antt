@@ -6,21 +6,21 @@ use mathlib.Core.Logic.{_↔_}
 use Prim.Native.Nat.{ℕ, _+_, _*_, _/_, _%_, _<_}
 use native.Mathlib.Nat.{div-div-eq-div-mul}
 use native.Mathlib.Omega.{arith}
-use borrow.Author.Tests.{ltb-true, ltb-false}
+use borrow.Author.Tests.{ltb-true, ltb-false, eqb-true, eqb-false, ne-eqb}
 use lib.Dec.{ltb, eqb}
 use lib.ListN.{length, getD, length-map}
 use Rattle.rules.specs.declared.Outcome.the-variants.{Pass}
-use Rattle.rules.specs.Octets.{flag}
+use Rattle.rules.specs.Octets.{AreOctets, flag}
 use Rattle.rules.specs.Header.{commandFlags, hopByHop, endToEnd}
 use Rattle.rules.specs.Dictionary.{dictionary}
 use Rattle.rules.specs.Walk.{avpsOf}
 use Rattle.rules.specs.Command.{walkOf, commandOutcome}
-use Rattle.rules.specs.Meaning.{Meaning, meaningOf, Agree}
+use Rattle.rules.specs.Meaning.{Meaning, meaningOf}
+use Rattle.rules.specs.Agreement.{compared, Agree}
 use Rattle.rules.proofs.Walk.{by-cases}
 use Rattle.rules.proofs.demands.items.Items.{cellIn, octetsOf}
 use Rattle.rules.proofs.demands.items.Trees.{sizeOf}
 use Rattle.rules.proofs.demands.items.Lists.{tights, size-octets}
-use Rattle.rules.proofs.demands.octets.Digits.{Octets}
 use Rattle.rules.proofs.demands.read.OneItem.{flag-value}
 use Rattle.rules.proofs.demands.agreement.Depths.{same-cells}
 use Rattle.rules.proofs.demands.agreement.Paddings.{padding-below}
@@ -60,7 +60,7 @@ module _ (f g : ℕ) where
 
 -- ---- the theorem
 
-module _ (a b : List ℕ) (oa : Octets a) (ob : Octets b) (ka : Accepted a) (kb : Accepted b) where
+module _ (a b : List ℕ) (oa : AreOctets a) (ob : AreOctets b) (ka : Accepted a) (kb : Accepted b) where
   -- the header's octets, of which the flags are the fifth
   header-octet : meaningOf a ≡ meaningOf b → length a ≡ length b → (i : ℕ) → i < 20 → (i ≡ 4 → ⊥)
       → getD a i 0 ≡ getD b i 0
@@ -87,6 +87,12 @@ module _ (a b : List ℕ) (oa : Octets a) (ob : Octets b) (ka : Accepted a) (kb 
       (λ k16. octet-same a b 4 16 (omega arith) (omega arith) oa ob (ap (λ (m : Meaning). m .endToEnd) e)
       i (ltb-false i 16 k16) h)))))
 
+  -- R, P, E, T, which are what is compared of the flags octet
+  flags-same : meaningOf a ≡ meaningOf b → compared a 4 ≡ compared b 4
+  flags-same e =
+      upper-same (commandFlags a) (commandFlags b) (oa 4) (ob 4) (ap (λ (m : Meaning). m .r) e)
+      (ap (λ (m : Meaning). m .p) e) (ap (λ (m : Meaning). m .e) e) (ap (λ (m : Meaning). m .t) e)
+
   means-agree : meaningOf a ≡ meaningOf b → Agree a b
   means-agree e =
       let xs = ka .items in
@@ -102,13 +108,17 @@ module _ (a b : List ℕ) (oa : Octets a) (ob : Octets b) (ka : Accepted a) (kb 
       let n : length a ≡ length b = omega (arith, ka .long, kb .long) in
       record {
         long = n;
-        flags = upper-same (commandFlags a) (commandFlags b) (oa 4) (ob 4) (ap (λ (m : Meaning). m .r) e)
-            (ap (λ (m : Meaning). m .p) e) (ap (λ (m : Meaning). m .e) e) (ap (λ (m : Meaning). m .t) e);
-        same = λ i h1 h2 h3 h4. by-cases (ltb i 20)
-            (λ k. header-octet e n i (ltb-true i 20 k) h2)
-            (λ k. same-octets dictionary xs ys a b 20 i (f .fit) (g .fit) tx c (ka .tail) (kb .tail) (ltb-false i 20 k)
-            (rw (avps-are a ka) at h3));
+        same = λ i h1 h2 h3. by-cases (eqb i 4)
+            (λ k. rw (eqb-true i 4 k) (flags-same e))
+            (λ k. rw k (by-cases (ltb i 20)
+            (λ h. header-octet e n i (ltb-true i 20 h) (eqb-false i 4 k))
+            (λ h. same-octets dictionary xs ys a b 20 i (f .fit) (g .fit) tx c (ka .tail) (kb .tail) (ltb-false i 20 h)
+            (rw (avps-are a ka) at h2))));
       }
+
+  -- elsewhere the octet
+  compared-octet : (i : ℕ) → (i ≡ 4 → ⊥) → compared a i ≡ compared b i → getD a i 0 ≡ getD b i 0
+  compared-octet i other e = rw (ne-eqb i 4 other) at e
 
   agree-means : Agree a b → meaningOf a ≡ meaningOf b
   agree-means g =
@@ -116,12 +126,14 @@ module _ (a b : List ℕ) (oa : Octets a) (ob : Octets b) (ka : Accepted a) (kb 
       let ys = kb .items in
       let la = ka .header .enough in
       let lb = kb .header .enough in
-      let head : (i : ℕ) → i < 20 → (i ≡ 4 → ⊥) → getD a i 0 ≡ getD b i 0 =
-      λ i h other. g .same i (omega arith) other (rw (avps-are a ka) (padding-below xs 20 i h))
+      let first : (i : ℕ) → i < 20 → compared a i ≡ compared b i =
+      λ i h. g .same i (omega arith) (rw (avps-are a ka) (padding-below xs 20 i h))
       (rw (avps-are b kb) (padding-below ys 20 i h)) in
+      let head : (i : ℕ) → i < 20 → (i ≡ 4 → ⊥) → getD a i 0 ≡ getD b i 0 =
+      λ i h other. compared-octet i other (first i h) in
       let like : Alike dictionary a b 20 xs ys =
-      λ i h1 h2 h3 h4. g .same i (omega (arith, ka .long)) (λ q. omega arith) (rw (avps-are a ka) h3)
-      (rw (avps-are b kb) h4) in
+      λ i h1 h2 h3 h4. compared-octet i (λ q. omega arith)
+      (g .same i (omega (arith, ka .long)) (rw (avps-are a ka) h3) (rw (avps-are b kb) h4)) in
       let c : map cellIn xs ≡ map cellIn ys =
       same-cells dictionary 1 xs ys (ka .listed) (kb .listed)
       (same-flats dictionary xs ys a b 20 (ka .listed .fit) (kb .listed .fit) (tights dictionary xs (ka .listed .sizes))
@@ -133,12 +145,13 @@ module _ (a b : List ℕ) (oa : Octets a) (ob : Octets b) (ka : Accepted a) (kb 
       number-same a b 4 12 (omega arith) (omega arith) (λ i h k. head i (omega arith) (λ q. omega arith)) in
       let end : endToEnd a ≡ endToEnd b =
       number-same a b 4 16 (omega arith) (omega arith) (λ i h k. head i (omega arith) (λ q. omega arith)) in
-      let u = same-upper (commandFlags a) (commandFlags b) in
+      let u : (k : ℕ) → flag (16 * k) (commandFlags a) ≡ flag (16 * k) (commandFlags b) =
+      λ k. same-upper (commandFlags a) (commandFlags b) k (first 4 (omega arith)) in
       rw (
-        u 8 (g .flags),
-        u 4 (g .flags),
-        u 2 (g .flags),
-        u 1 (g .flags),
+        u 8,
+        u 4,
+        u 2,
+        u 1,
         hop,
         end,
         count,
@@ -148,7 +161,7 @@ module _ (a b : List ℕ) (oa : Octets a) (ob : Octets b) (ka : Accepted a) (kb 
       )
 
 -- demand 3, first half
-pub same-meaning : (a b : List ℕ) → Octets a → Octets b → commandOutcome a ≡ Pass → commandOutcome b ≡ Pass
+pub same-meaning : (a b : List ℕ) → AreOctets a → AreOctets b → commandOutcome a ≡ Pass → commandOutcome b ≡ Pass
     → (meaningOf a ≡ meaningOf b) ↔ Agree a b
 same-meaning a b oa ob pa pb =
     let ka = accepted a oa pa in

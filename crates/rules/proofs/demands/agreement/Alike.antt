@@ -12,8 +12,9 @@ use lib.Seq.{take-at}
 use Rattle.rules.specs.Octets.{padded}
 use Rattle.rules.specs.Avp.{flagsAt, flagV, flagM, flagP, headerOf}
 use Rattle.rules.specs.Dictionary.{Entry}
-use Rattle.rules.specs.Meaning.{Cell, isPadding}
-use Rattle.rules.specs.Writer.{hasVendor, avpHeader}
+use Rattle.rules.specs.Meaning.{Cell}
+use Rattle.rules.specs.Agreement.{fillsOne}
+use Rattle.rules.specs.Wire.{hasVendor, avpHeader}
 use Rattle.rules.proofs.Fields.{header-least}
 use Rattle.rules.proofs.Walk.{by-cases}
 use Rattle.rules.proofs.demands.items.Items.{Item, cellIn, octetsOf, step, avpsAt, All, Fit}
@@ -52,7 +53,7 @@ module _ (dict : List Entry) where
   pub same-octets : (xs ys : List Item) (a b : List ℕ) (at i : ℕ) → All (Fit dict) xs → All (Fit dict) ys
       → All (Tight dict) xs
       → map cellIn xs ≡ map cellIn ys → drop at a ≡ octetsOf xs → drop at b ≡ octetsOf ys → at ≤ i
-      → isPadding (avpsAt at xs) i ≡ false → getD a i 0 ≡ getD b i 0
+      → fillsOne (avpsAt at xs) i ≡ false → getD a i 0 ≡ getD b i 0
   same-octets [] [] a b at i f g t e ea eb h p =
       getD-past a (octetsOf []) at i ea h ∙ sym (getD-past b (octetsOf []) at i eb h)
   same-octets [] (y ∷ ys) a b at i f g t e ea eb h p = let z : _≡_ {A = ℕ} 0 1 = cc in absurd (omega arith)
@@ -144,8 +145,8 @@ module _ (dict : List Entry) where
   -- the same octets from a place on, where neither has padding
   abbrev pub Alike : List ℕ → List ℕ → ℕ → List Item → List Item → Type 0
   Alike a b at xs ys =
-      (i : ℕ) → at ≤ i → i < at + length (octetsOf xs) → isPadding (avpsAt at xs) i ≡ false
-      → isPadding (avpsAt at ys) i ≡ false
+      (i : ℕ) → at ≤ i → i < at + length (octetsOf xs) → fillsOne (avpsAt at xs) i ≡ false
+      → fillsOne (avpsAt at ys) i ≡ false
       → getD a i 0 ≡ getD b i 0
 
   pub same-flats : (xs ys : List Item) (a b : List ℕ) (at : ℕ) → All (Fit dict) xs → All (Fit dict) ys
@@ -169,7 +170,7 @@ module _ (dict : List Entry) where
       let st : at + step x ≡ at + step y = ap (λ (k : ℕ). at + k) (step-same dict x y (f .0) (g .0) c) in
       let h′ : Alike a b (at + step x) xs ys =
       λ i h1 h2 h3 h4. h i (omega arith) (omega arith) (padding-beyond dict x (f .0) (t .0) xs at i h1 ∙ h3)
-      (padding-beyond dict y (g .0) (u .0) ys at i (omega arith) ∙ ap (λ (j : ℕ). isPadding (avpsAt j ys) i) (sym st)
+      (padding-beyond dict y (g .0) (u .0) ys at i (omega arith) ∙ ap (λ (j : ℕ). fillsOne (avpsAt j ys) i) (sym st)
       ∙ h4) in
       let ih = same-flats xs ys a b (at + step x) (f .1) (g .1) (t .1) (u .1) (past-item x a _ at da)
       (ap (λ (j : ℕ). drop j b) st ∙ past-item y b _ at db) (omega arith) h′ in

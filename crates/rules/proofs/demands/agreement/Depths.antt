@@ -7,7 +7,7 @@ use native.Mathlib.Omega.{arith}
 use lib.ListN.{length, length-append}
 use Rattle.rules.specs.Dictionary.{Entry}
 use Rattle.rules.specs.Meaning.{Cell}
-use Rattle.rules.specs.Writer.{hasVendor}
+use Rattle.rules.specs.Wire.{hasVendor}
 use Rattle.rules.proofs.Fields.{header-least}
 use Rattle.rules.proofs.Walk.{by-cases}
 use Rattle.rules.proofs.demands.items.Items.{Item, cellIn, octetsOf, ownSize, Listed}

@@ -10,8 +10,8 @@ use lib.ListN.{length}
 use Rattle.rules.specs.Octets.{padded}
 use Rattle.rules.specs.Avp.{headerOf, placeOf, endOf}
 use Rattle.rules.specs.Dictionary.{Entry}
-use Rattle.rules.specs.Meaning.{isPadding}
-use Rattle.rules.specs.Writer.{hasVendor}
+use Rattle.rules.specs.Agreement.{fillsOne}
+use Rattle.rules.specs.Wire.{hasVendor}
 use Rattle.rules.proofs.Octets.{padded-least}
 use Rattle.rules.proofs.Walk.{by-cases}
 use Rattle.rules.proofs.Fields.{padded-header}
@@ -33,13 +33,13 @@ isFill at x i =
     leb (at + headerOf (hasVendor (x .cell)) + x .cell .length) i
     && ltb i (at + (headerOf (hasVendor (x .cell)) + padded (x .cell .length)))
 
-padding-nil : (at i : ℕ) → isPadding (avpsAt at []) i ≡ false
-unfolding isPadding avpsAt
+padding-nil : (at i : ℕ) → fillsOne (avpsAt at []) i ≡ false
+unfolding fillsOne avpsAt
 padding-nil at i = refl
 
 padding-cons : (at : ℕ) (x : Item) (xs : List Item) (i : ℕ)
-    → isPadding (avpsAt at (x ∷ xs)) i ≡ (isFill at x i || isPadding (avpsAt (at + step x) xs) i)
-unfolding isPadding avpsAt
+    → fillsOne (avpsAt at (x ∷ xs)) i ≡ (isFill at x i || fillsOne (avpsAt (at + step x) xs) i)
+unfolding fillsOne avpsAt
 padding-cons at x xs i =
     let h = headerOf (hasVendor (x .cell)) in
     let e : endOf (avpOf at x) - at ≡ h + x .cell .length = omega arith in
@@ -47,10 +47,10 @@ padding-cons at x xs i =
 
 -- within an item's header and data, where the items behind have no padding
 before-padding : (at : ℕ) (x : Item) (xs : List Item) (i : ℕ) → i < at + headerOf (hasVendor (x .cell)) + x .cell .length
-    → isPadding (avpsAt (at + step x) xs) i ≡ false → isPadding (avpsAt at (x ∷ xs)) i ≡ false
+    → fillsOne (avpsAt (at + step x) xs) i ≡ false → fillsOne (avpsAt at (x ∷ xs)) i ≡ false
 before-padding at x xs i h r = padding-cons at x xs i ∙ simp (lt-leb _ _ h, r)
 
-pub padding-below : (xs : List Item) (at i : ℕ) → i < at → isPadding (avpsAt at xs) i ≡ false
+pub padding-below : (xs : List Item) (at i : ℕ) → i < at → fillsOne (avpsAt at xs) i ≡ false
 padding-below [] at i h = padding-nil at i
 padding-below (x ∷ xs) at i h =
     before-padding at x xs i (omega arith) (padding-below xs (at + step x) i (omega arith))
@@ -68,14 +68,14 @@ module _ (dict : List Entry) (x : Item) (fit : Fit dict x) (tight : Tight dict x
       (λ h. let t = tight h in f (fit .data-is ∙ rw h) t (omega arith))
       (λ h. g (fit .data-is ∙ rw h) q)
 
-  pub padding-front : i < at + front x → isPadding (avpsAt at (x ∷ xs)) i ≡ false
+  pub padding-front : i < at + front x → fillsOne (avpsAt at (x ∷ xs)) i ≡ false
   padding-front h =
       let l = padded-least (x .cell .length) in
       let b : front x ≤ headerOf (hasVendor (x .cell)) + x .cell .length =
       parts (λ d t p. omega arith) (λ d p. omega arith) in
       before-padding at x xs i (omega arith) (padding-below xs (at + step x) i (omega arith))
 
-  pub padding-fill : at + front x ≤ i → i < at + step x → isPadding (avpsAt at (x ∷ xs)) i ≡ true
+  pub padding-fill : at + front x ≤ i → i < at + step x → fillsOne (avpsAt at (x ∷ xs)) i ≡ true
   padding-fill h k =
       let l = padded-least (x .cell .length) in
       let a : at + headerOf (hasVendor (x .cell)) + x .cell .length ≤ i =
@@ -84,7 +84,7 @@ module _ (dict : List Entry) (x : Item) (fit : Fit dict x) (tight : Tight dict x
       parts (λ d t p. omega arith) (λ d p. omega arith) in
       padding-cons at x xs i ∙ simp (le-leb _ _ a, lt-ltb _ _ b)
 
-  pub padding-beyond : at + step x ≤ i → isPadding (avpsAt at (x ∷ xs)) i ≡ isPadding (avpsAt (at + step x) xs) i
+  pub padding-beyond : at + step x ≤ i → fillsOne (avpsAt at (x ∷ xs)) i ≡ fillsOne (avpsAt (at + step x) xs) i
   padding-beyond h =
       let l = padded-least (x .cell .length) in
       padding-cons at x xs i

@@ -5,10 +5,9 @@ use Prim.Native.Nat.{ℕ, _+_, _-_, _≤_, _<_}
 use native.Mathlib.Omega.{arith}
 use lib.ListN.{length, getD, take, drop, length-drop, List·getD-append}
 use lib.Seq.{length-take-le, getD-take, getD-drop, ext-getD}
-use Rattle.rules.specs.Octets.{number, numberAt}
-use Rattle.rules.specs.Writer.{octets}
+use Rattle.rules.specs.Octets.{AreOctets, number, numberAt, octets}
 use Rattle.rules.proofs.Octets.{numberAt-in}
-use Rattle.rules.proofs.demands.octets.Digits.{Octets, octets-numberAt}
+use Rattle.rules.proofs.demands.octets.Digits.{octets-numberAt}
 
 -- what stands at a place, further on
 pub getD-past : (s l : List ℕ) (at i : ℕ) → drop at s ≡ l → at ≤ i → getD s i 0 ≡ getD l (i - at) 0
@@ -37,7 +36,7 @@ module _ (a b : List ℕ) (w at : ℕ) (ha : at + w ≤ length a) (hb : at + w �
   pub number-same : ((i : ℕ) → at ≤ i → i < at + w → getD a i 0 ≡ getD b i 0) → numberAt w a at ≡ numberAt w b at
   number-same e = numberAt-in w a at ha ∙ ap number (part-same e) ∙ sym (numberAt-in w b at hb)
 
-  pub octet-same : Octets a → Octets b → numberAt w a at ≡ numberAt w b at → (i : ℕ) → at ≤ i → i < at + w
+  pub octet-same : AreOctets a → AreOctets b → numberAt w a at ≡ numberAt w b at → (i : ℕ) → at ≤ i → i < at + w
       → getD a i 0 ≡ getD b i 0
   octet-same oa ob e i h k =
       let p : take w (drop at a) ≡ take w (drop at b) =

@@ -3,25 +3,31 @@
 use mathlib.Core.Path.{_≡_, refl, sym, ap, _∙_}
 use mathlib.Core.Bool.{true, not}
 use mathlib.Core.Logic.{_↔_}
-use mathlib.Core.List.{List, [], _∷_, _++_, append-assoc}
-use Prim.Native.Nat.{ℕ, _-_, _≤_}
+use mathlib.Core.List.{List, [], _∷_, _++_, map, append-assoc}
+use Prim.Native.Nat.{ℕ, suc, _-_, _≤_}
 use native.Mathlib.Omega.{arith}
-use borrow.Author.Tests.{ltb-false, not-false}
+use borrow.Author.Tests.{ltb-false, not-false, eq-eqb, ne-eqb}
 use lib.Dec.{ltb}
 use lib.ListN.{length, take, drop, length-append, length-drop}
 use lib.Seq.{take-at, drop-at, drop-drop, take-append-seam, drop-append-seam}
+use Rattle.rules.specs.declared.Verdict.{Verdict}
 use Rattle.rules.specs.declared.Outcome.{Outcome}
 use Rattle.rules.specs.declared.Outcome.the-variants.{Pass, Refused}
 use Rattle.rules.specs.Header.{lengthField, longestCommand}
 use Rattle.rules.specs.Command.{commandOutcome}
 use Rattle.rules.specs.Meaning.{Meaning, meaningOf}
-use Rattle.rules.specs.Writer.{commandOctets, Draft, draftMeaning, isWellFormed, draftOctets, draftOutcome, octetsBy, octetsWritten, writing, outputAfter}
-use Rattle.rules.specs.Calls.{front, rest, allWritten, outputAfterAll, acceptedBy, allAccepted}
+use Rattle.rules.specs.Wire.{commandOctets}
+use Rattle.rules.specs.Draft.{Draft, draftMeaning, isWellFormed}
+use Rattle.rules.specs.Writer.{draftOctets, draftOutcome, octetsBy, octetsWritten, writing, outputAfter}
+use Rattle.rules.specs.Calls.{front, rest, allWritten, outputAfterAll, ifAccepted, acceptedDrafts, SameInOrder}
+use Rattle.rules.proofs.Walk.{never}
 use Rattle.rules.proofs.Passed.{not-refused}
 use Rattle.rules.proofs.demands.octets.Numbers.{number-front}
 use Rattle.rules.proofs.demands.written.Headers.{command-long}
+use Rattle.rules.proofs.demands.written.Judged.{by-outcome}
 use Rattle.rules.proofs.demands.written.Writing.{head-written}
 use Rattle.rules.proofs.demands.written.Drafts.{draft-writable, draft-meaning}
+use Rattle.rules.proofs.demands.numbering.Numbering.{draft-number}
 
 -- ---- one call
 
@@ -117,29 +123,64 @@ joined-same (m ∷ ms) (n ∷ ns) g h e =
 
 -- ---- lists of calls
 
--- the octets of the accepted meanings, end to end, are what was written
+-- a draft counts exactly where its call was accepted
+module _ (d : Draft) (out : List ℕ) where
+  one-accepted : draftOutcome d (length out) ≡ Pass → ifAccepted d out ≡ d ∷ []
+  one-accepted e = rw (eq-eqb (writing d out .verdict .number) 0 (draft-number d out .1 e))
+
+  none-accepted : {v : Verdict} → draftOutcome d (length out) ≡ Refused v → ifAccepted d out ≡ []
+  none-accepted e = rw (ne-eqb (writing d out .verdict .number) 0 (λ z. never (sym e ∙ draft-number d out .0 z)))
+
+-- the octets of the accepted drafts' meanings, end to end, are what was written
 abbrev Told : List ℕ → List Meaning → Type 0
 Told x ms = (x ≡ joined ms) × AllReadable ms
 
-one-call : (d : Draft) (room : ℕ) (o : Outcome) → draftOutcome d room ≡ o → (x : List ℕ) (ms : List Meaning) → Told x ms
-    → Told (octetsBy o (draftOctets d) ++ x) (acceptedBy o d ++ ms)
-one-call d room Pass e x ms t = (rw (t .0), (readable d room (accepted d room e), t .1))
-one-call d room (Refused v) e x ms t = t
+one-call : (d : Draft) (out x : List ℕ) (ds : List Draft) → Told x (map draftMeaning ds)
+    → Told (front d out ++ x) (map draftMeaning (ifAccepted d out ++ ds))
+unfolding octetsWritten
+one-call d out x ds t =
+    by-outcome (draftOutcome d (length out))
+    (λ e. rw (one-accepted d out e, front-is d out, e)
+    (rw (t .0), (readable d (length out) (accepted d (length out) e), t .1)))
+    (λ v e. rw (none-accepted d out e, front-is d out, e) t)
 
-calls : (ds : List Draft) (out : List ℕ) → Told (allWritten ds out) (allAccepted ds out)
-unfolding allWritten allAccepted octetsWritten
+calls : (ds : List Draft) (out : List ℕ) → Told (allWritten ds out) (map draftMeaning (acceptedDrafts ds out))
+unfolding allWritten acceptedDrafts
 calls [] out = (refl, tt)
-calls (d ∷ ds) out =
-    let t = one-call d (length out) (draftOutcome d (length out)) refl _ _ (calls ds (rest d out)) in
-    (ap (λ (x : List ℕ). x ++ allWritten ds (rest d out)) (front-is d out) ∙ t .0, t .1)
+calls (d ∷ ds) out = one-call d out (allWritten ds (rest d out)) (acceptedDrafts ds (rest d out)) (calls ds (rest d out))
+
+same-in-order : (ds es : List Draft) → map draftMeaning ds ≡ map draftMeaning es → SameInOrder ds es
+same-in-order [] [] h = tt
+same-in-order [] (e ∷ es) h = let z : _≡_ {A = ℕ} 0 1 = cc in omega arith
+same-in-order (d ∷ ds) [] h = let z : _≡_ {A = ℕ} 0 1 = cc in omega arith
+same-in-order (d ∷ ds) (e ∷ es) h =
+    let t : map draftMeaning ds ≡ map draftMeaning es = cc in
+    (cc, same-in-order ds es t)
+
+-- drafts that are the same in order are equally many
+equally-many : (ds es : List Draft) → SameInOrder ds es → length ds ≡ length es
+equally-many [] [] h = refl
+equally-many [] (e ∷ es) h = omega arith
+equally-many (d ∷ ds) [] h = omega arith
+equally-many (d ∷ ds) (e ∷ es) h = ap suc (equally-many ds es (h .1))
+
+in-order-same : (ds es : List Draft) → SameInOrder ds es → map draftMeaning ds ≡ map draftMeaning es
+in-order-same [] [] h = refl
+in-order-same [] (e ∷ es) h = absurd (omega (arith, equally-many [] (e ∷ es) h))
+in-order-same (d ∷ ds) [] h = absurd (omega (arith, equally-many (d ∷ ds) [] h))
+in-order-same (d ∷ ds) (e ∷ es) h = rw (h .0, in-order-same ds es (h .1))
 
 -- demand 3, the two lists of write calls
 pub same-written : (ds es : List Draft) (out out′ : List ℕ)
-    → (allWritten ds out ≡ allWritten es out′) ↔ (allAccepted ds out ≡ allAccepted es out′)
+    → (allWritten ds out ≡ allWritten es out′) ↔ SameInOrder (acceptedDrafts ds out) (acceptedDrafts es out′)
 same-written ds es out out′ =
     let c = calls ds out in
     let k = calls es out′ in
-    (λ e. joined-same _ _ (c .1) (k .1) (sym (c .0) ∙ e ∙ k .0), λ e. c .0 ∙ ap joined e ∙ sym (k .0))
+    let a = acceptedDrafts ds out in
+    let b = acceptedDrafts es out′ in (
+      λ e. same-in-order a b (joined-same _ _ (c .1) (k .1) (sym (c .0) ∙ e ∙ k .0)),
+      λ h. c .0 ∙ ap joined (in-order-same a b h) ∙ sym (k .0),
+    )
 
 -- ---- the output after the calls
 

@@ -15,7 +15,8 @@ use Rattle.rules.specs.Avp.{headerOf}
 use Rattle.rules.specs.Dictionary.{Entry, find}
 use Rattle.rules.specs.Walk.{Walked, whole, stopped, after, mostAvps, contents}
 use Rattle.rules.specs.Meaning.{Cell, isReadGroup}
-use Rattle.rules.specs.Writer.{hasVendor, avpHeader, isTree}
+use Rattle.rules.specs.Wire.{hasVendor, avpHeader}
+use Rattle.rules.specs.Draft.{isTree}
 
 pub record Item : Type 0 where
   pub cell : Cell

@@ -14,7 +14,8 @@ use Rattle.rules.specs.Avp.{headerOf}
 use Rattle.rules.specs.Dictionary.{Entry}
 use Rattle.rules.specs.Walk.{deepest}
 use Rattle.rules.specs.Meaning.{Cell}
-use Rattle.rules.specs.Writer.{hasVendor, isTree}
+use Rattle.rules.specs.Wire.{hasVendor}
+use Rattle.rules.specs.Draft.{isTree}
 use Rattle.rules.proofs.Walk.{by-cases}
 use Rattle.rules.proofs.demands.items.Items.{Item, cellIn, octetsOf, step, All, Fit, ownSize, sizeUnder, hasSizesUnder, Listed}
 use Rattle.rules.proofs.demands.items.Sequences.{all-append, all-left, all-right, nil-of, octets-nil, length-cons}

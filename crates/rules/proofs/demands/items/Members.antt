@@ -10,7 +10,7 @@ use lib.Dec.{ltb, eqb}
 use Rattle.rules.specs.Octets.{padded}
 use Rattle.rules.specs.Dictionary.{Entry}
 use Rattle.rules.specs.Meaning.{Cell}
-use Rattle.rules.specs.Writer.{isTree, fullSize, membersSize, hasSizes}
+use Rattle.rules.specs.Draft.{isTree, fullSize, membersSize, hasSizes}
 use Rattle.rules.proofs.Walk.{by-cases}
 use Rattle.rules.proofs.demands.items.Items.{ownSize, sizeUnder, hasSizesUnder}
 use Rattle.rules.proofs.demands.items.Trees.{Shallow, isGroupCell, Stands, stands, Sized, sized, under-shallow, under-words}

@@ -13,7 +13,8 @@ use Rattle.rules.specs.Avp.{headerOf}
 use Rattle.rules.specs.Dictionary.{Entry}
 use Rattle.rules.specs.Walk.{deepest}
 use Rattle.rules.specs.Meaning.{Cell, isReadGroup}
-use Rattle.rules.specs.Writer.{hasVendor, nextDepth, isTree}
+use Rattle.rules.specs.Wire.{hasVendor}
+use Rattle.rules.specs.Draft.{nextDepth, isTree}
 use Rattle.rules.proofs.Octets.{padded-least}
 use Rattle.rules.proofs.Tests.{and-true}
 use Rattle.rules.proofs.Walk.{by-cases}

@@ -1,4 +1,4 @@
--- No refusal of the rows' checks or of the exchange rules has the number 0.
+-- Each refusal of the rows' checks and of the exchange rules has a number of the reader's table.
 use mathlib.Core.Path.{_≡_, refl}
 use mathlib.Core.Bool.{Bool, true, false, cond}
 use mathlib.Core.List.{List, [], _∷_}
@@ -17,18 +17,19 @@ use Rattle.rules.specs.declared.Admission.the-variants.{ByRow, NoRow}
 use Rattle.rules.specs.declared.Grammar.{Grammar}
 use Rattle.rules.specs.declared.Found.{Found}
 use Rattle.rules.specs.declared.Found.the-variants.{At, Nothing}
+use Rattle.rules.specs.Verdict.{readerNumbers}
 use Rattle.rules.specs.Avp.{endOf, named}
 use Rattle.rules.specs.Dictionary.{Entry, defined, membersOf}
 use Rattle.rules.specs.Rows.{Row, rowsOf, admitsOthers}
 use Rattle.rules.specs.RowChecks.{admission, noneMet, counted, byMark, byAdmission, memberOutcome, missingFrom, membersOutcome, membersAt, groupOutcome, groupsOutcome, rowsOutcome}
 use Rattle.rules.specs.Search.{avpIn, isAt, firstFrom, search, member}
 use Rattle.rules.specs.Exchange.{present, volume, firstRequest, laterRequest, requestBy, requestOutcome, resultBy, resultOutcome, ifFound, policiesBy, policiesOutcome, policyOutcome, policyAt, eachPolicy, answerOutcome, windowBy, windowOutcome, windowAt, eachWindow, byCommand, exchangeOutcome}
-use Rattle.rules.proofs.demands.numbering.Refusals.{isNumbered, pass-numbered, either, both, in-turn}
+use Rattle.rules.proofs.demands.numbering.Refusals.{numberIn, isNumbered, pass-numbered, either, both, in-turn}
 
 -- ---- the rows
 
 mark-numbered : (mark : Mark) (met first : Bool) (a : Avp) → isNumbered (byMark mark met first a) ≡ true
-unfolding isNumbered
+unfolding numberIn readerNumbers
 mark-numbered First met first a = simp (either, both)
 mark-numbered Once met first a = simp (either, both)
 mark-numbered AtMostOnce met first a = simp (either, both)
@@ -36,7 +37,7 @@ mark-numbered AnyNumber met first a = refl
 
 admission-numbered : (others : Bool) (counts : List ℕ) (first : Bool) (a : Avp) (row : Admission)
     → isNumbered (byAdmission others counts first a row) ≡ true
-unfolding isNumbered
+unfolding numberIn readerNumbers
 admission-numbered others counts first a (ByRow row mark) = mark-numbered mark (ltb 0 (getD counts row 0)) first a
 admission-numbered others counts first a NoRow = simp (either, both)
 
@@ -48,7 +49,7 @@ member-numbered g counts first a =
 
 missing-numbered : (i : ℕ) (rows : List Row) (counts : List ℕ) (end : ℕ)
     → isNumbered (missingFrom i rows counts end) ≡ true
-unfolding missingFrom isNumbered
+unfolding missingFrom numberIn readerNumbers
 missing-numbered i [] counts end = refl
 missing-numbered i (r ∷ rs) counts end = let ih = missing-numbered (i + 1) rs counts end in simp (either, both, ih)
 
@@ -61,12 +62,12 @@ members-numbered g end counts first (a ∷ xs) =
     (members-numbered g end (counted counts (admission g (a .vendor) (a .code))) false xs)
 
 group-numbered : (m : Members) (a : Avp) (xs : List Avp) → isNumbered (groupOutcome m a xs) ≡ true
-unfolding isNumbered
+unfolding numberIn readerNumbers
 group-numbered (Under g) a xs = members-numbered g (endOf a) noneMet true (membersAt (a .depth + 1) xs)
 group-numbered NoMembers a xs = refl
 
 groups-numbered : (dict : List Entry) (xs : List Avp) → isNumbered (groupsOutcome dict xs) ≡ true
-unfolding groupsOutcome isNumbered
+unfolding groupsOutcome numberIn readerNumbers
 groups-numbered dict [] = refl
 groups-numbered dict (a ∷ xs) =
     in-turn (groupOutcome (membersOf (defined dict a)) a xs) _ (group-numbered (membersOf (defined dict a)) a xs)
@@ -81,12 +82,12 @@ rows-numbered dict g end xs =
 -- ---- the exchange rules
 
 present-numbered : (end vendor code : ℕ) (f : Found) → isNumbered (present end vendor code f) ≡ true
-unfolding isNumbered
+unfolding numberIn readerNumbers
 present-numbered end vendor code (At i) = refl
 present-numbered end vendor code Nothing = refl
 
 volume-numbered : (xs : List Avp) (end : ℕ) → isNumbered (volume xs end) ≡ true
-unfolding volume isNumbered
+unfolding volume numberIn readerNumbers
 volume-numbered xs end = simp (either, both, present-numbered)
 
 first-numbered : (xs : List Avp) (end : ℕ) → isNumbered (firstRequest xs end) ≡ true
@@ -105,7 +106,7 @@ later-numbered xs end =
     (present-numbered end 0 293 (search xs 0 293)))
 
 request-by : (xs : List Avp) (s : List ℕ) (end : ℕ) (f : Found) → isNumbered (requestBy xs s end f) ≡ true
-unfolding isNumbered
+unfolding numberIn readerNumbers
 request-by xs s end (At i) = simp (either, both, first-numbered, later-numbered)
 request-by xs s end Nothing = refl
 
@@ -114,7 +115,7 @@ unfolding requestOutcome
 request-numbered xs s end = request-by xs s end (search xs 10415 4203)
 
 result-by : (xs : List Avp) (end : ℕ) (f g : Found) → isNumbered (resultBy xs end f g) ≡ true
-unfolding isNumbered
+unfolding numberIn readerNumbers
 result-by xs end (At i) (At j) = refl
 result-by xs end (At i) Nothing = refl
 result-by xs end Nothing (At j) = refl
@@ -125,7 +126,7 @@ unfolding resultOutcome
 result-numbered xs end = result-by xs end (search xs 0 268) (search xs 0 297)
 
 found-numbered : (f : Found) (o : Outcome) → isNumbered o ≡ true → isNumbered (ifFound f o) ≡ true
-unfolding isNumbered
+unfolding numberIn readerNumbers
 found-numbered (At i) o h = h
 found-numbered Nothing o h = refl
 
@@ -149,11 +150,11 @@ policy-numbered xs i =
 
 -- an outcome of some positions
 where-numbered : (b : Bool) (o : Outcome) → isNumbered o ≡ true → isNumbered (cond b o Pass) ≡ true
-unfolding isNumbered
+unfolding numberIn readerNumbers
 where-numbered b o h = simp (either, both, h)
 
 each-policy-numbered : (xs : List Avp) (i : ℕ) (rest : List Avp) → isNumbered (eachPolicy xs i rest) ≡ true
-unfolding eachPolicy isNumbered
+unfolding eachPolicy numberIn readerNumbers
 each-policy-numbered xs i [] = refl
 each-policy-numbered xs i (a ∷ rest) =
     in-turn (policyAt xs i a) _ (where-numbered (isAt a 1 10415 4207) (policyOutcome xs i) (policy-numbered xs i))
@@ -165,7 +166,7 @@ answer-numbered xs end =
     in-turn _ _ (result-numbered xs end) (in-turn _ _ (policies-numbered xs end) (each-policy-numbered xs 0 xs))
 
 window-by : (xs : List Avp) (s : List ℕ) (end : ℕ) (f g : Found) → isNumbered (windowBy xs s end f g) ≡ true
-unfolding isNumbered
+unfolding numberIn readerNumbers
 window-by xs s end (At i) (At j) = simp (either, both)
 window-by xs s end (At i) Nothing = refl
 window-by xs s end Nothing (At j) = refl
@@ -178,7 +179,7 @@ window-numbered xs s i depth =
 
 each-window-numbered : (xs : List Avp) (s : List ℕ) (i : ℕ) (rest : List Avp)
     → isNumbered (eachWindow xs s i rest) ≡ true
-unfolding eachWindow isNumbered
+unfolding eachWindow numberIn readerNumbers
 each-window-numbered xs s i [] = refl
 each-window-numbered xs s i (a ∷ rest) =
     let w = windowOutcome xs s i (a .depth + 1) in

@@ -1,24 +1,25 @@
--- The returned number tells acceptance: no refusal has the number 0, so it is 0 exactly when the command, or the draft,
--- is accepted.
+-- The number that comes back is 0 or one of the table: the reader's, and for a draft those of the writer too. The table
+-- lacks 0 but for acceptance, so the number is 0 exactly when the command, or the draft, is accepted.
 use mathlib.Core.Path.{_≡_, refl, ap}
-use mathlib.Core.Bool.{true, not}
-use mathlib.Core.List.{List}
+use mathlib.Core.Bool.{true, false}
+use mathlib.Core.List.{List, _∷_}
 use mathlib.Core.Logic.{_↔_}
 use Prim.Native.Nat.{ℕ}
-use native.Mathlib.Omega.{arith}
-use borrow.Author.Tests.{eq-eqb}
+use borrow.Author.Tests.{ne-eqb}
 use lib.Dec.{eqb}
 use lib.ListN.{length}
-use Rattle.rules.specs.declared.Verdict.{Verdict}
 use Rattle.rules.specs.declared.Outcome.{Outcome}
 use Rattle.rules.specs.declared.Outcome.the-variants.{Pass, Refused}
-use Rattle.rules.specs.Verdict.{verdictOf}
+use Rattle.rules.specs.Verdict.{readerNumbers, writerOnlyNumbers, writerNumbers, isAmong, verdictOf}
 use Rattle.rules.specs.Header.{commandFlags, isRequest, headerOutcome}
 use Rattle.rules.specs.Dictionary.{dictionary}
-use Rattle.rules.specs.Walk.{Walked, whole, stopped}
-use Rattle.rules.specs.Command.{commandGrammar, walkOf, listsOutcome, walkedOutcome, commandOutcome, commandVerdict}
-use Rattle.rules.specs.Writer.{Draft, draftOutcome, writing}
-use Rattle.rules.proofs.demands.numbering.Refusals.{isNumbered, either, both, in-turn, header-numbered, stopOf, walk-numbered}
+use Rattle.rules.specs.Walk.{Walked, whole, stopped, stopOf}
+use Rattle.rules.specs.Command.{commandGrammar, ownList, walkOf, listsOutcome, walkedOutcome, commandOutcome, commandVerdict}
+use Rattle.rules.specs.Draft.{Draft}
+use Rattle.rules.specs.Writer.{draftOctets, draftOutcome, writing}
+use Rattle.rules.proofs.Tests.{or-right}
+use Rattle.rules.proofs.demands.items.Lists.{not-both}
+use Rattle.rules.proofs.demands.numbering.Refusals.{numberIn, isNumbered, either, both, in-turn, header-numbered, walk-numbered}
 use Rattle.rules.proofs.demands.numbering.ListRefusals.{rows-numbered, exchange-numbered}
 
 lists-numbered : (s : List ℕ) (w : Walked) → isNumbered (stopOf w) ≡ true → isNumbered (walkedOutcome s w) ≡ true
@@ -32,40 +33,69 @@ command-numbered : (s : List ℕ) → isNumbered (commandOutcome s) ≡ true
 unfolding commandOutcome walkOf
 command-numbered s =
     in-turn (headerOutcome s) _ (header-numbered s)
-    (lists-numbered s (walkOf s) (walk-numbered (length s) dictionary s 20 (length s) 1 0))
+    (lists-numbered s (walkOf s) (walk-numbered (length s) dictionary s (ownList s)))
 
-draft-numbered : (d : Draft) (room : ℕ) → isNumbered (draftOutcome d room) ≡ true
-unfolding draftOutcome isNumbered
-draft-numbered d room = simp (either, both, command-numbered)
+-- what the reader gives, the writer may give
+writers-too : (o : Outcome) → isNumbered o ≡ true → numberIn writerNumbers o ≡ true
+unfolding numberIn writerOnlyNumbers
+writers-too Pass h = refl
+writers-too (Refused v) h =
+    let n = v .number in
+    or-right (eqb n 7004) _ (or-right (eqb n 7006) (isAmong readerNumbers n) h)
+
+draft-numbered : (d : Draft) (room : ℕ) → numberIn writerNumbers (draftOutcome d room) ≡ true
+unfolding draftOutcome numberIn writerOnlyNumbers readerNumbers
+draft-numbered d room =
+    let c = writers-too (commandOutcome (draftOctets d)) (command-numbered (draftOctets d)) in
+    simp (either, both, c)
 
 -- ---- what that says of a number that comes back
 
-refusal-number : (o : Outcome) (v : Verdict) → isNumbered o ≡ true → o ≡ Refused v → v .number ≡ 0 → ⊥
-unfolding isNumbered
-refusal-number o v h e z =
-    let k : not (eqb (v .number) 0) ≡ true = rw e at h in
-    let f : not true ≡ true = rw (eq-eqb (v .number) 0 z) at k in
-    let y : _≡_ {A = ℕ} 0 1 = cc in
-    omega arith
+-- it is 0 or one of the list
+in-table : (ns : List ℕ) (o : Outcome) → numberIn ns o ≡ true → isAmong (0 ∷ ns) (verdictOf o .number) ≡ true
+unfolding numberIn
+in-table ns Pass h = refl
+in-table ns (Refused v) h = or-right (eqb (v .number) 0) (isAmong ns (v .number)) h
 
-number-tells : (o : Outcome) → isNumbered o ≡ true → (verdictOf o .number ≡ 0) ↔ (o ≡ Pass)
-number-tells Pass h = (λ z. refl, λ e. refl)
-number-tells (Refused v) h =
-    (λ z. absurd (refusal-number (Refused v) v h refl z), λ e. ap (λ (o : Outcome). verdictOf o .number) e)
+-- a number of a list that lacks m is not m
+not-among : (ns : List ℕ) (m n : ℕ) → isAmong ns m ≡ false → isAmong ns n ≡ true → n ≡ m → ⊥
+not-among ns m n lacks h e = not-both (isAmong ns m) (rw e at h) lacks
 
--- no refusal has the number 0
-pub command-refusal : (s : List ℕ) (v : Verdict) → commandOutcome s ≡ Refused v → v .number ≡ 0 → ⊥
-command-refusal s v = refusal-number (commandOutcome s) v (command-numbered s)
+-- the number of a list that lacks 0 tells acceptance
+number-tells : (ns : List ℕ) (o : Outcome) → isAmong ns 0 ≡ false → numberIn ns o ≡ true
+    → (verdictOf o .number ≡ 0) ↔ (o ≡ Pass)
+unfolding numberIn
+number-tells ns Pass lacks h = (λ z. refl, λ e. refl)
+number-tells ns (Refused v) lacks h =
+    (λ z. absurd (not-among ns 0 (v .number) lacks h z), λ e. ap (λ (o : Outcome). verdictOf o .number) e)
 
-pub draft-refusal : (d : Draft) (room : ℕ) (v : Verdict) → draftOutcome d room ≡ Refused v → v .number ≡ 0 → ⊥
-draft-refusal d room v = refusal-number (draftOutcome d room) v (draft-numbered d room)
-
--- so the number is 0 exactly when the command, or the draft, is accepted
-pub command-number : (s : List ℕ) → (commandVerdict s .number ≡ 0) ↔ (commandOutcome s ≡ Pass)
+-- the reader's numbers
+pub command-table : (s : List ℕ) → isAmong (0 ∷ readerNumbers) (commandVerdict s .number) ≡ true
 unfolding commandVerdict
-command-number s = number-tells (commandOutcome s) (command-numbered s)
+command-table s = in-table readerNumbers (commandOutcome s) (command-numbered s)
+
+-- none of them is one that only the writer gives
+pub command-not-writers : (s : List ℕ) → isAmong writerOnlyNumbers (commandVerdict s .number) ≡ false
+unfolding writerOnlyNumbers readerNumbers
+command-not-writers s =
+    let n = commandVerdict s .number in
+    let t = command-table s in
+    simp (
+      ne-eqb n 7004 (not-among (0 ∷ readerNumbers) 7004 n refl t),
+      ne-eqb n 7006 (not-among (0 ∷ readerNumbers) 7006 n refl t),
+    )
+
+-- the writer's numbers
+pub draft-table : (d : Draft) (out : List ℕ) → isAmong (0 ∷ writerNumbers) (writing d out .verdict .number) ≡ true
+unfolding writing
+draft-table d out = in-table writerNumbers (draftOutcome d (length out)) (draft-numbered d (length out))
+
+-- the number is 0 exactly when the command, or the draft, is accepted
+pub command-number : (s : List ℕ) → (commandVerdict s .number ≡ 0) ↔ (commandOutcome s ≡ Pass)
+unfolding commandVerdict readerNumbers
+command-number s = number-tells readerNumbers (commandOutcome s) refl (command-numbered s)
 
 pub draft-number : (d : Draft) (out : List ℕ)
     → (writing d out .verdict .number ≡ 0) ↔ (draftOutcome d (length out) ≡ Pass)
-unfolding writing
-draft-number d out = number-tells (draftOutcome d (length out)) (draft-numbered d (length out))
+unfolding writing writerOnlyNumbers readerNumbers
+draft-number d out = number-tells writerNumbers (draftOutcome d (length out)) refl (draft-numbered d (length out))

@@ -8,15 +8,10 @@ use native.Mathlib.Omega.{arith}
 use lib.ListN.{length, take, drop, getD, length-drop, take-append-drop}
 use lib.Dec.{lit<}
 use lib.Seq.{getD-drop, drop-drop, drop-cons, length-take-le}
-use Rattle.rules.specs.Octets.{number, numberAt}
-use Rattle.rules.specs.Writer.{octets}
+use Rattle.rules.specs.Octets.{AreOctets, number, numberAt, octets}
 use Rattle.rules.proofs.Octets.{numberAt-in}
 
--- each number of the list is an octet
-abbrev pub Octets : List ℕ → Type 0
-Octets s = (i : ℕ) → getD s i 0 < 256
-
-pub octets-drop : (at : ℕ) (s : List ℕ) → Octets s → Octets (drop at s)
+pub octets-drop : (at : ℕ) (s : List ℕ) → AreOctets s → AreOctets (drop at s)
 octets-drop at s o = λ i. rw (getD-drop at s i 0) (o (at + i))
 
 power-pos : (w : ℕ) → 0 < 256 ^ w
@@ -31,7 +26,7 @@ octets-over (suc w) k n =
     let d : (k * 256 + n / 256 ^ w) % 256 ≡ n / 256 ^ w % 256 = omega arith in
     rw (e, mul-add-div-right (power-pos w) (k * 256) n, octets-over w (k * 256) n, d)
 
-pub number-below : (w : ℕ) (s : List ℕ) → Octets s → w ≤ length s → number (take w s) < 256 ^ w
+pub number-below : (w : ℕ) (s : List ℕ) → AreOctets s → w ≤ length s → number (take w s) < 256 ^ w
 number-below zero s o h = omega arith
 number-below (suc w) [] o h = absurd (omega arith)
 number-below (suc w) (x ∷ s) o h =
@@ -41,7 +36,7 @@ number-below (suc w) (x ∷ s) o h =
     rw (l, pow-suc) (omega arith)
 
 -- the octets of a number that w octets stand for are those octets
-digits : (w : ℕ) (s : List ℕ) → Octets s → w ≤ length s → octets w (number (take w s)) ≡ take w s
+digits : (w : ℕ) (s : List ℕ) → AreOctets s → w ≤ length s → octets w (number (take w s)) ≡ take w s
 unfolding octets
 digits zero s o h = refl
 digits (suc w) [] o h = absurd (omega arith)
@@ -52,12 +47,12 @@ digits (suc w) (x ∷ s) o h =
     let d : (x + 0) % 256 ≡ x = omega (arith, o 0) in
     rw (l, mul-add-div-right (power-pos w) x (number (take w s)), b, d, octets-over w x (number (take w s)), ih)
 
-pub octets-numberAt : (w : ℕ) (s : List ℕ) (at : ℕ) → Octets s → at + w ≤ length s
+pub octets-numberAt : (w : ℕ) (s : List ℕ) (at : ℕ) → AreOctets s → at + w ≤ length s
     → octets w (numberAt w s at) ≡ take w (drop at s)
 octets-numberAt w s at o h =
     ap (octets w) (numberAt-in w s at h) ∙ digits w (drop at s) (octets-drop at s o) (rw length-drop (omega arith))
 
-pub numberAt-below : (w : ℕ) (s : List ℕ) (at : ℕ) → Octets s → at + w ≤ length s → numberAt w s at < 256 ^ w
+pub numberAt-below : (w : ℕ) (s : List ℕ) (at : ℕ) → AreOctets s → at + w ≤ length s → numberAt w s at < 256 ^ w
 numberAt-below w s at o h =
     rw (numberAt-in w s at h) (number-below w (drop at s) (octets-drop at s o) (rw length-drop (omega arith)))
 
@@ -67,7 +62,7 @@ cut s at n to e =
     sym (take-append-drop n (drop at s))
     ∙ ap (λ (l : List ℕ). take n (drop at s) ++ l) (drop-drop n at s ∙ ap (λ (k : ℕ). drop k s) (sym e))
 
-pub number-first : (w : ℕ) (s : List ℕ) (at to : ℕ) → Octets s → at + w ≤ length s → to ≡ at + w
+pub number-first : (w : ℕ) (s : List ℕ) (at to : ℕ) → AreOctets s → at + w ≤ length s → to ≡ at + w
     → drop at s ≡ octets w (numberAt w s at) ++ drop to s
 number-first w s at to o h e =
     cut s at w to e ∙ ap (λ (l : List ℕ). l ++ drop to s) (sym (octets-numberAt w s at o h))

@@ -6,6 +6,7 @@ use native.Mathlib.Omega.{arith}
 use lib.ListN.{length, drop}
 use lib.Seq.{drop-length}
 use Rattle.rules.specs.declared.Outcome.the-variants.{Pass}
+use Rattle.rules.specs.Octets.{AreOctets}
 use Rattle.rules.specs.Dictionary.{dictionary}
 use Rattle.rules.specs.Walk.{whole, avpsOf}
 use Rattle.rules.specs.Command.{walkOf, listsOutcome, commandOutcome}
@@ -16,7 +17,6 @@ use Rattle.rules.proofs.demands.items.Items.{Item, cellIn, octetsOf, av
 use Rattle.rules.proofs.demands.items.Sequences.{length-avps}
 use Rattle.rules.proofs.demands.written.Cells.{cells-of, within}
 use Rattle.rules.proofs.demands.written.Read.{full}
-use Rattle.rules.proofs.demands.octets.Digits.{Octets}
 use Rattle.rules.proofs.demands.read.Soundness.{sound}
 
 pub record Accepted (c : List ℕ) : Type 0 where
@@ -30,7 +30,7 @@ pub record Accepted (c : List ℕ) : Type 0 where
   pub few : length items ≤ 256
   pub lists : listsOutcome c (avpsAt 20 items) ≡ Pass
 
-pub accepted : (c : List ℕ) → Octets c → commandOutcome c ≡ Pass → Accepted c
+pub accepted : (c : List ℕ) → AreOctets c → commandOutcome c ≡ Pass → Accepted c
 unfolding walkOf
 accepted c oct e =
     let w = passed-command c e in

@@ -10,17 +10,17 @@ use lib.Dec.{eqb, lit<}
 use lib.ListN.{length, take, drop, length-drop}
 use lib.Seq.{length-take-le}
 use Rattle.rules.specs.declared.Outcome.the-variants.{Pass}
-use Rattle.rules.specs.Octets.{numberAt, flag, padded}
+use Rattle.rules.specs.Octets.{AreOctets, numberAt, flag, padded, octets}
 use Rattle.rules.specs.Avp.{codeAt, flagsAt, flagV, flagM, flagP, lengthAt, headerOf, vendorAt, nextAt, avpAt}
 use Rattle.rules.specs.Dictionary.{Entry, defined}
 use Rattle.rules.specs.Walk.{framing, contents}
 use Rattle.rules.specs.Meaning.{Cell, isReadGroup, cellOf}
-use Rattle.rules.specs.Writer.{octets, hasVendor, avpFlags, vendorOctets, avpHeader}
+use Rattle.rules.specs.Wire.{hasVendor, avpFlags, vendorOctets, avpHeader}
 use Rattle.rules.proofs.Octets.{padded-least}
 use Rattle.rules.proofs.Fields.{header-least, padded-header}
 use Rattle.rules.proofs.Walk.{by-cases}
 use Rattle.rules.proofs.Passed.{framed, passed, right-flags}
-use Rattle.rules.proofs.demands.octets.Digits.{Octets, cut, number-first, octet-first, numberAt-below}
+use Rattle.rules.proofs.demands.octets.Digits.{cut, number-first, octet-first, numberAt-below}
 use Rattle.rules.proofs.demands.items.Items.{Item, step, avpOf, Fit}
 
 -- ---- the flags octet
@@ -79,7 +79,7 @@ cellAt-is dict s at depth = refl
 
 -- an AVP that passes its checks, in a list that lies in octets
 pub record Passing (dict : List Entry) (s : List ℕ) (at end depth : ℕ) : Type 0 where
-  pub octets : Octets s
+  pub octets : AreOctets s
   pub inside : end ≤ length s
   pub frame : framing s at end ≡ Pass
   pub pass : contents s at (avpAt s at depth) (defined dict (avpAt s at depth)) ≡ Pass
