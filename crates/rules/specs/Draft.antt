@@ -41,7 +41,7 @@ hasRoom r = eqb (length (r .avps)) mostAvps
 abbrev pub countFits : Record → Bool
 countFits r = leb (r .count) mostAvps
 
--- an unused place is all 0
+-- a place that is all 0
 unfoldable pub isBlank : Avp → Bool
 isBlank a =
     eqb (a .depth) 0 && eqb (a .vendor) 0 && eqb (a .code) 0 && not (a .m) && not (a .p) && eqb (a .start) 0
@@ -51,6 +51,7 @@ unfoldable pub allBlank : List Avp → Bool
 allBlank [] = true
 allBlank (a ∷ xs) = isBlank a && allBlank xs
 
+-- an unused place is all 0
 abbrev pub unusedBlank : Record → Bool
 unusedBlank r = allBlank (drop (r .count) (r .avps))
 
@@ -89,7 +90,7 @@ hasSizes dict [] = true
 hasSizes dict (c ∷ cs) =
     cond (isReadGroup dict (c .vendor) (c .code)) (eqb (c .length) (membersSize (c .depth + 1) cs)) true && hasSizes dict cs
 
--- identifiers, vendors and codes fit their four octets on the wire; a flag is a Bool and fits its bit
+-- identifiers, and vendors and codes, of four octets
 unfoldable pub identifiersFit : Record → Bool
 identifiersFit r = ltb (r .«hop_by_hop») (2 ^ 32) && ltb (r .«end_to_end») (2 ^ 32)
 
@@ -100,6 +101,7 @@ unfoldable pub namesFit : List Avp → Bool
 namesFit [] = true
 namesFit (a ∷ xs) = nameFits a && namesFit xs
 
+-- each identifier, vendor and code fits its place on the wire; a flag is a Bool, which fits its bit
 abbrev pub fitsWire : Record → Bool
 fitsWire r = identifiersFit r && namesFit (recorded r)
 
