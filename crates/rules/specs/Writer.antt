@@ -10,10 +10,8 @@ use Rattle.rules.specs.declared.Outcome.the-variants.{Pass, Refused}
 use Rattle.rules.specs.Verdict.{refused, refuseIf, verdictOf}
 use Rattle.rules.specs.Header.{longestCommand}
 use Rattle.rules.specs.Command.{commandOutcome}
-unfoldable pub use Rattle.rules.specs.Octets.{octets}
-unfoldable pub use Rattle.rules.specs.Wire.{hasVendor, avpFlags, vendorOctets, avpHeader, avpOctets, listOctets, flagsOctet, commandHeader, commandOctets}
-pub use Rattle.rules.specs.Draft.{Draft}
-unfoldable pub use Rattle.rules.specs.Draft.{draftOf, ownDraft, cellsOf, draftMeaning, hasRoom, countFits, isBlank, allBlank, unusedBlank, isPlaced, allPlaced, nextDepth, isTree, fullSize, membersSize, hasSizes, identifiersFit, nameFits, namesFit, fitsWire, isWellFormed}
+use Rattle.rules.specs.Wire.{commandOctets}
+use Rattle.rules.specs.Draft.{Draft, draftMeaning, isWellFormed}
 
 -- the octets that a draft would be written as
 abbrev pub draftOctets : Draft → List ℕ
