@@ -76,7 +76,7 @@ counted-walk (whole xs) = omega arith
 counted-walk (stopped xs v) = refl
 
 module _ (s : List ℕ) where
-  pub long-command : 16384 < length s → commandWalk s ≡ stopped [] (verdict 7001 1 0 0)
+  long-command : 16384 < length s → commandWalk s ≡ stopped [] (verdict 7001 1 0 0)
   unfolding commandWalk
   long-command h = rw (lt-ltb 16384 (length s) h)
 
@@ -85,7 +85,7 @@ module _ (s : List ℕ) where
     unfolding commandWalk walkOf
     command-walk = rw (le-ltb 16384 (length s) short)
 
-    pub no-list : length s < 20 → commandWalk s ≡ whole []
+    no-list : length s < 20 → commandWalk s ≡ whole []
     no-list h = command-walk ∙ list-end (length s) dictionary s (ownList s) (omega arith)
 
     command-fits : AllFit (avpsOf (commandWalk s))

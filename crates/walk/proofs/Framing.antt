@@ -74,16 +74,16 @@ module _ (s : List ℕ) (at end : ℕ) (place : InList s at end) where
   abbrev pub restOf : List ℕ
   restOf = take (end - at) (drop at s)
 
-  pub rest-left : length restOf ≡ end - at
+  rest-left : length restOf ≡ end - at
   rest-left = length-take-le (end - at) (drop at s) (simp length-drop (omega (arith, place)))
 
-  pub rest-number : (w k : ℕ) → k + w ≤ end - at → numberAt w restOf k ≡ numberAt w s (at + k)
+  rest-number : (w k : ℕ) → k + w ≤ end - at → numberAt w restOf k ≡ numberAt w s (at + k)
   rest-number w k h = numberAt-part w s at (end - at) k h (omega (arith, place))
 
-  pub rest-code : 8 ≤ end - at → numberAt 4 restOf 0 ≡ codeAt s at
+  rest-code : 8 ≤ end - at → numberAt 4 restOf 0 ≡ codeAt s at
   rest-code h = rest-number 4 0 (omega arith) ∙ ap (numberAt 4 s) (add-zero at)
 
-  pub rest-flags : 8 ≤ end - at → getD restOf 4 0 ≡ flagsAt s at
+  rest-flags : 8 ≤ end - at → getD restOf 4 0 ≡ flagsAt s at
   rest-flags h = getD-take (end - at) (drop at s) 4 0 (omega arith) ∙ getD-drop at s 4 0
 
   module _ (depth : ℕ) where

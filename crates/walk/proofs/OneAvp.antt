@@ -41,7 +41,7 @@ group-level s w e =
     rw d at (i .2)
 
 -- there is room for an AVP that passes
-pub plain-few : (s : List ℕ) (w : Standing) {a : Avp} → checked dictionary s w ≡ Plain a → w .count < mostAvps
+plain-few : (s : List ℕ) (w : Standing) {a : Avp} → checked dictionary s w ≡ Plain a → w .count < mostAvps
 plain-few s w e = passed-few dictionary s w (λ v f. let z : _≡_ {A = ℕ} 0 1 = cc in absurd (omega arith))
 
 pub group-few : (s : List ℕ) (w : Standing) {a : Avp} → checked dictionary s w ≡ Group a → w .count < mostAvps

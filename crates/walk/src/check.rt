@@ -1,13 +1,13 @@
 // 01, Walk: the seven checks of an AVP. Check 2, its frame, is in frame.rt.
 ghost use mathlib.Core.Path.{_≡_};
-ghost use mathlib.Core.Bool.{_&&_};
+ghost use mathlib.Core.Bool.{false, _&&_};
 ghost use Prim.Native.Nat.{_+_, _≤_};
 ghost use lib.Dec.{eqb};
 ghost use lib.ListN.{length};
 ghost use Rattle.rules.specs.Octets.{numberAt};
 ghost use Rattle.rules.specs.Verdict.{refused};
 ghost use Rattle.rules.specs.Header.{longestCommand};
-ghost use Rattle.rules.specs.Avp.{flagV};
+ghost use Rattle.rules.specs.Avp.{flagV, headerOf};
 ghost use Rattle.rules.specs.Dictionary.{dictionary, requiresM, isGroup};
 ghost use Rattle.rules.specs.Walk.{wrongFlags, unsupported, wrongWidth, wrongValue, tooDeep, contents, checkedAvp, checked, standing};
 ghost use Rattle.walk.specs.Promise.{InList};
@@ -134,7 +134,7 @@ fn refusal(number: u32, at: usize, a: Avp) -> Outcome
 
 // Checks 3 to 7 of the AVP at a place, with what the dictionary says of its name.
 fn content(s: &[u8], at: usize, a: Avp, d: Definition) -> Outcome
-    requires { ⌜ (at + 8 ≤ length (now s)) × (at ≤ longestCommand) ⌝ }
+    requires { ⌜ (at + headerOf false ≤ length (now s)) × (at ≤ longestCommand) ⌝ }
     ensures { λ r. ⌜ r ≡ contents (now (s .entry)) at a d ⌝ }
 {
     if wrong_flags(s[at + 4], a, d) {
@@ -157,7 +157,7 @@ fn content(s: &[u8], at: usize, a: Avp, d: Definition) -> Outcome
 
 // Checks 3 to 7 of the AVP at a place, and whether its data are a list.
 fn judged(s: &[u8], at: usize, a: Avp) -> Checked
-    requires { ⌜ (at + 8 ≤ length (now s)) × (at ≤ longestCommand) ⌝ }
+    requires { ⌜ (at + headerOf false ≤ length (now s)) × (at ≤ longestCommand) ⌝ }
     ensures { λ r. ⌜ r ≡ checkedAvp dictionary (now (s .entry)) at a ⌝ }
 {
     let d = dictionary::definition(a.vendor, a.code);

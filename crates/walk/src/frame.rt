@@ -78,8 +78,8 @@ fn avp_by(
 }
 
 // Check 2 of the AVP at a place, in a list at this depth: the code is given where 8 octets are left, the vendor where V is set
-// and 12 are. The two sizes of a header are two paths up to their answers:
-// joined in a function below, they cost the compiled walk what the one reading gains.
+// and 12 are. The two sizes of a header are two paths up to their answers: joined in a function below, they cost the
+// compiled walk what the one reading gains.
 pub(crate) fn framed(s: &[u8], at: usize, end: usize, depth: u32) -> Frame
     requires { ⌜ InList (now s) at end ⌝ }
     ensures { λ r. ⌜ r ≡ frameOf (framing (now (s .entry)) at end) (avpAt (now (s .entry)) at depth) ⌝ }
