@@ -56,8 +56,15 @@ pub fn number8(s: &[u8], at: usize) -> u64
     if s.len() - 8 < at {
         return 0;
     }
-    let high = number4(s, at) as u64;
-    high * 4294967296 + number4(s, at + 4) as u64
+    let high = wide(s[at]) * 16777216
+        + wide(s[at + 1]) * 65536
+        + wide(s[at + 2]) * 256
+        + wide(s[at + 3]);
+    let low = wide(s[at + 4]) * 16777216
+        + wide(s[at + 5]) * 65536
+        + wide(s[at + 6]) * 256
+        + wide(s[at + 7]);
+    high as u64 * 4294967296 + low as u64
 }
 
 // Whether the flag of this value is set in an octet. No flag has the value 0.

@@ -1,12 +1,13 @@
 // 01, The record: the record of an accepted command, the empty record, the data of a position, and the search.
 ghost use mathlib.Core.Path.{_≡_};
-ghost use Prim.Native.Nat.{_≤_};
+ghost use Prim.Native.Nat.{_+_, _≤_};
+ghost use denote.Ref.{ptr};
 ghost use mathlib.Core.Bool.{_&&_};
 ghost use lib.Dec.{eqb};
 ghost use lib.ListN.{length, replicate};
 ghost use Rattle.rules.specs.Search.{blank};
 ghost use Rattle.rules.specs.Avp.{named};
-ghost use Rattle.rules.specs.Record.{inRoom, recordOf, emptyRecord, dataAt, searchRecord};
+ghost use Rattle.rules.specs.Record.{inRoom, recordOf, emptyRecord, dataStart, dataAt, searchRecord};
 ghost use Rattle.log.specs.Log.{avpsIn};
 use octets::has_flag;
 use rules::Avp;
@@ -87,20 +88,24 @@ pub fn is_found(a: Avp, vendor: u32, code: u32) -> bool
 // The data of the AVP at a position, as that part of the slice; the empty part at its start where the position is unused or
 // the part does not lie in the slice.
 pub fn data<'a>(record: Record, position: usize, s: &'a [u8]) -> &'a [u8]
-    ensures { λ r. ⌜ now r ≡ dataAt «record» position (now (s .entry)) ⌝ }
+    ensures block { λ r. ⌜ ptr r .0 ≡ ptr (s .entry) .0 ⌝ }
+    ensures place { λ r. ⌜ ptr r .1 ≡ dataStart «record» position (length (now (s .entry))) + ptr (s .entry) .1 ⌝ }
+    ensures octets { λ r. ⌜ now r ≡ dataAt «record» position (now (s .entry)) ⌝ }
 {
+    let nothing = &s[0..0];
     let count = record.count as usize;
     if limits::MOST_AVPS <= position {
-        return &s[..0];
+        return nothing;
     }
     if count <= position {
-        return &s[..0];
+        return nothing;
     }
     let a = record.avps[position];
     let start = a.start as usize;
-    let end = start + a.length as usize;
+    let length = a.length as usize;
+    let end = start + length;
     if s.len() < end {
-        return &s[..0];
+        return nothing;
     }
     &s[start..end]
 }
