@@ -8,7 +8,7 @@ use native.Mathlib.Numerals.{add-one}
 use native.Mathlib.Omega.{arith}
 use lib.ListN.{length, getD, set, drop, replicate, drop-of-length-le, length-replicate, getD-replicate}
 use lib.Seq.{sets, drop-cons}
-use Rattle.rules.specs.Writer.{octets}
+use Rattle.rules.specs.Octets.{octets}
 
 -- ---- a number of w octets: a store for each, from the first to the last
 

@@ -1,8 +1,9 @@
 // Big-endian numbers of 2, 3, 4 and 8 octets at a place of a slice, each by one law over the width. A number that does
-// not lie whole in the slice reads as 0, so each function that reads takes any place. And the length with padding.
+// not lie whole in the slice reads as 0, so each function that reads takes any place. And a flag of an octet, and the
+// length with padding.
 ghost use mathlib.Core.Path.{_≡_};
 ghost use Prim.Native.Nat.{_≤_};
-ghost use Rattle.rules.specs.Octets.{numberAt, IsNumber, padded};
+ghost use Rattle.rules.specs.Octets.{numberAt, IsNumber, flag, padded};
 
 fn wide(x: u8) -> u32
     ensures { λ r. ⌜ IsNumber 1 x r ⌝ }
@@ -55,8 +56,25 @@ pub fn number8(s: &[u8], at: usize) -> u64
     if s.len() - 8 < at {
         return 0;
     }
-    let high = number4(s, at) as u64;
-    high * 4294967296 + number4(s, at + 4) as u64
+    let high = wide(s[at]) * 16777216
+        + wide(s[at + 1]) * 65536
+        + wide(s[at + 2]) * 256
+        + wide(s[at + 3]);
+    let low = wide(s[at + 4]) * 16777216
+        + wide(s[at + 5]) * 65536
+        + wide(s[at + 6]) * 256
+        + wide(s[at + 7]);
+    high as u64 * 4294967296 + low as u64
+}
+
+// Whether the flag of this value is set in an octet. No flag has the value 0.
+pub fn has_flag(octet: u8, value: u8) -> bool
+    ensures { λ r. ⌜ r ≡ flag value octet ⌝ }
+{
+    if value == 0 {
+        return false;
+    }
+    octet / value % 2 == 1
 }
 
 // A length with the padding to a multiple of four.

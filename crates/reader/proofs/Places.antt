@@ -14,9 +14,9 @@ use Rattle.rules.specs.declared.Record.{Record}
 use Rattle.rules.specs.declared.Found.{Found}
 use Rattle.rules.specs.declared.Found.the-variants.{At, Nothing}
 use Rattle.rules.specs.Header.{commandFlags, hopByHop, endToEnd, isRequest, isProxiable, isError, isRetransmitted}
-use Rattle.rules.specs.Avp.{named}
+use Rattle.rules.specs.Avp.{named, endOf}
 use Rattle.rules.specs.Search.{blank, avpIn, firstFrom}
-use Rattle.rules.specs.Record.{inRoom, recordOf, recorded, dataAt, searchRecord}
+use Rattle.rules.specs.Record.{inRoom, recordOf, recorded, liesIn, dataStart, dataLength, dataAt, searchRecord}
 use Rattle.rules.proofs.Searches.{first-here, first-later, first-none}
 
 -- the length of a list, from that of its image: what owning an array tells is said of an image
@@ -58,22 +58,31 @@ record-is s xs n e = rw (← e)
 
 -- ---- the data of a position
 
-module _ (r : Record) (i : ℕ) (s : List ℕ) where
-  pub data-unused : min (r .count) 256 ≤ i → dataAt r i s ≡ []
-  unfolding dataAt
-  data-unused h = rw (le-ltb i (min (r .count) 256) h)
+module _ (r : Record) (i : ℕ) (size : ℕ) where
+  pub lies-unused : min (r .count) 256 ≤ i → liesIn r i size ≡ false
+  lies-unused h = rw (le-ltb i (min (r .count) 256) h)
 
   module _ (used : i < min (r .count) 256) where
-    pub data-outside : length s < avpIn (r .avps) i .start + avpIn (r .avps) i .length → dataAt r i s ≡ []
-    unfolding dataAt
-    data-outside h =
-        rw (lt-ltb i (min (r .count) 256) used, lt-leb (avpIn (r .avps) i .start + avpIn (r .avps) i .length) (length s) h)
+    pub lies-outside : size < endOf (avpIn (r .avps) i) → liesIn r i size ≡ false
+    lies-outside h = rw (lt-ltb i (min (r .count) 256) used) (lt-leb (endOf (avpIn (r .avps) i)) size h)
 
-    pub data-inside : avpIn (r .avps) i .start + avpIn (r .avps) i .length ≤ length s
+    pub lies-inside : endOf (avpIn (r .avps) i) ≤ size → liesIn r i size ≡ true
+    lies-inside h = rw (lt-ltb i (min (r .count) 256) used) (le-leb (endOf (avpIn (r .avps) i)) size h)
+
+module _ (r : Record) (i : ℕ) (s : List ℕ) where
+  pub data-unused : min (r .count) 256 ≤ i → dataAt r i s ≡ []
+  unfolding dataAt dataStart dataLength
+  data-unused h = rw (lies-unused r i (length s) h)
+
+  module _ (used : i < min (r .count) 256) where
+    pub data-outside : length s < endOf (avpIn (r .avps) i) → dataAt r i s ≡ []
+    unfolding dataAt dataStart dataLength
+    data-outside h = rw (lies-outside r i (length s) used h)
+
+    pub data-inside : endOf (avpIn (r .avps) i) ≤ length s
         → dataAt r i s ≡ take (avpIn (r .avps) i .length) (drop (avpIn (r .avps) i .start) s)
-    unfolding dataAt
-    data-inside h =
-        rw (lt-ltb i (min (r .count) 256) used, le-leb (avpIn (r .avps) i .start + avpIn (r .avps) i .length) (length s) h)
+    unfolding dataAt dataStart dataLength
+    data-inside h = rw (lies-inside r i (length s) used h)
 
 -- ---- a search place by place
 

@@ -4,8 +4,10 @@ ghost use mathlib.Core.Bool.{_&&_};
 ghost use lib.ListN.{length};
 ghost use Rattle.rules.specs.Verdict.{refused};
 ghost use Rattle.rules.specs.Header.{isRequest, isError, lengthOutcome, applicationOutcome, flagsOutcome, headerOutcome};
+use octets::has_flag;
 use rules::Outcome;
 use rules::Verdict;
+use rules::flags;
 use rules::limits;
 
 fn refusal(number: u32, place: u32) -> Outcome
@@ -61,27 +63,23 @@ fn application_outcome(s: &[u8]) -> Outcome
 fn is_error_request(flags: u8) -> bool
     ensures { λ r. ⌜ r ≡ (isRequest flags && isError flags) ⌝ }
 {
-    let r = flags / 128 % 2;
-    let e = flags / 32 % 2;
-    if r != 1 {
-        return false;
+    if has_flag(flags, flags::REQUEST) {
+        return has_flag(flags, flags::ERROR);
     }
-    e == 1
+    false
 }
 
 // R and E both set, or P clear; then E set.
 fn flags_outcome(flags: u8) -> Outcome
     ensures { λ r. ⌜ r ≡ flagsOutcome flags ⌝ }
 {
-    let p = flags / 64 % 2;
-    let e = flags / 32 % 2;
     if is_error_request(flags) {
         return refusal(3008, 4);
     }
-    if p != 1 {
+    if !has_flag(flags, flags::PROXIABLE) {
         return refusal(3008, 4);
     }
-    if e == 1 {
+    if has_flag(flags, flags::ERROR) {
         return refusal(7005, 4);
     }
     Outcome::Pass

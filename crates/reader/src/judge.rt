@@ -7,8 +7,10 @@ ghost use Rattle.log.specs.Log.{avpsIn};
 ghost use Rattle.reader.specs.Promise.{IsJudged};
 use crate::Judgement;
 use crate::header;
+use octets::has_flag;
 use rules::Grammar;
 use rules::Outcome;
+use rules::flags;
 use rules::limits;
 use walk::Walk;
 
@@ -16,8 +18,7 @@ use walk::Walk;
 fn command_grammar(flags: u8) -> Grammar
     ensures { λ r. ⌜ r ≡ commandGrammar flags ⌝ }
 {
-    let r = flags / 128 % 2;
-    if r == 1 {
+    if has_flag(flags, flags::REQUEST) {
         return Grammar::Request;
     }
     Grammar::Answer
@@ -34,8 +35,8 @@ fn lists_outcome(s: &[u8], log: &[u32; limits::LOG_NUMBERS], count: usize) -> Ou
     let Outcome::Pass = rows else {
         return rows;
     };
-    let r = flags / 128 % 2;
-    exchange::judge(r == 1, s, log, count, end)
+    let request = has_flag(flags, flags::REQUEST);
+    exchange::judge(request, s, log, count, end)
 }
 
 // A command judged into a lent log.

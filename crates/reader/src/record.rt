@@ -1,16 +1,19 @@
 // 01, The record: the record of an accepted command, the empty record, the data of a position, and the search.
 ghost use mathlib.Core.Path.{_≡_};
-ghost use Prim.Native.Nat.{_≤_};
+ghost use Prim.Native.Nat.{_+_, _≤_};
+ghost use denote.Ref.{ptr};
 ghost use mathlib.Core.Bool.{_&&_};
 ghost use lib.Dec.{eqb};
 ghost use lib.ListN.{length, replicate};
 ghost use Rattle.rules.specs.Search.{blank};
 ghost use Rattle.rules.specs.Avp.{named};
-ghost use Rattle.rules.specs.Record.{inRoom, recordOf, emptyRecord, dataAt, searchRecord};
+ghost use Rattle.rules.specs.Record.{inRoom, recordOf, emptyRecord, dataStart, dataAt, searchRecord};
 ghost use Rattle.log.specs.Log.{avpsIn};
+use octets::has_flag;
 use rules::Avp;
 use rules::Found;
 use rules::Record;
+use rules::flags;
 use rules::limits;
 
 // An array of 256 blank places.
@@ -57,15 +60,11 @@ pub(crate) fn record_of(s: &[u8], log: &[u32; limits::LOG_NUMBERS], count: usize
     ensures { λ r. ⌜ r ≡ recordOf (now (s .entry)) (avpsIn (now (log .entry)) count) ⌝ }
 {
     let flags = s[4];
-    let r = flags / 128 % 2;
-    let p = flags / 64 % 2;
-    let e = flags / 32 % 2;
-    let t = flags / 16 % 2;
     Record {
-        r: r == 1,
-        p: p == 1,
-        e: e == 1,
-        t: t == 1,
+        r: has_flag(flags, flags::REQUEST),
+        p: has_flag(flags, flags::PROXIABLE),
+        e: has_flag(flags, flags::ERROR),
+        t: has_flag(flags, flags::RETRANSMITTED),
         hop_by_hop: octets::number4(s, 12),
         end_to_end: octets::number4(s, 16),
         count: count as u32,
@@ -89,20 +88,24 @@ pub fn is_found(a: Avp, vendor: u32, code: u32) -> bool
 // The data of the AVP at a position, as that part of the slice; the empty part at its start where the position is unused or
 // the part does not lie in the slice.
 pub fn data<'a>(record: Record, position: usize, s: &'a [u8]) -> &'a [u8]
-    ensures { λ r. ⌜ now r ≡ dataAt «record» position (now (s .entry)) ⌝ }
+    ensures block { λ r. ⌜ ptr r .0 ≡ ptr (s .entry) .0 ⌝ }
+    ensures place { λ r. ⌜ ptr r .1 ≡ dataStart «record» position (length (now (s .entry))) + ptr (s .entry) .1 ⌝ }
+    ensures octets { λ r. ⌜ now r ≡ dataAt «record» position (now (s .entry)) ⌝ }
 {
+    let nothing = &s[0..0];
     let count = record.count as usize;
     if limits::MOST_AVPS <= position {
-        return &s[..0];
+        return nothing;
     }
     if count <= position {
-        return &s[..0];
+        return nothing;
     }
     let a = record.avps[position];
     let start = a.start as usize;
-    let end = start + a.length as usize;
+    let length = a.length as usize;
+    let end = start + length;
     if s.len() < end {
-        return &s[..0];
+        return nothing;
     }
     &s[start..end]
 }

@@ -1,4 +1,6 @@
 -- The laws of the definitions, by topic. They name no code.
+-- computed: the writer's drafts and octets at the edges
+pub mod WriterEdges
 pub mod Octets
 pub mod Tests
 pub mod Outcomes
@@ -9,6 +11,9 @@ pub mod Meanings
 pub mod Passed
 pub mod Header
 pub mod Commands
+pub mod Steps
 pub mod Searches
 -- the user's demands as theorems over the definitions
 pub mod demands
+-- the octets of a well-formed draft, for the writer
+pub mod Sizes

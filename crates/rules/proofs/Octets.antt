@@ -2,13 +2,12 @@
 use mathlib.Core.Path.{_≡_, refl, sym, ap, _∙_}
 use mathlib.Core.List.{List, [], _∷_, _++_}
 use Prim.Native.Nat.{ℕ, zero, suc, _+_, _-_, _*_, _^_, _≤_, _<_}
-use native.Mathlib.Nat.{sub-zero, zero-sub, add-zero, mul-assoc, pow-suc, add-mul, one-le-pow}
+use native.Mathlib.Nat.{sub-zero, zero-sub, add-zero, mul-assoc, pow-suc, one-le-pow}
 use native.Mathlib.Omega.{arith}
 use native.Mathlib.Numerals.{add-one}
 use borrow.Author.Tests.{le-leb, lt-leb}
 use lib.ListN.{length, take, drop, getD, length-append, length-drop}
-use lib.Pow.{pow-add}
-use lib.Seq.{take-suc, getD-drop, take-add, drop-drop, drop-nil, take-nil, take-take, length-take-le}
+use lib.Seq.{take-suc, getD-drop, drop-drop, drop-nil, take-nil, take-take, length-take-le}
 use lib.Dec.{lit<}
 use Rattle.rules.specs.Octets.{number, numberAt, IsNumber, padded}
 
@@ -33,12 +32,6 @@ number-snoc (x ∷ xs) y =
     let e = number-snoc xs y in
     number-cons x (xs ++ (y ∷ [])) ∙ rw (e, length-append, add-one, pow-suc, ← mul-assoc) (omega arith)
 
-number-append : (xs ys : List ℕ) → number (xs ++ ys) ≡ number xs * 256 ^ length ys + number ys
-number-append [] ys = omega arith
-number-append (x ∷ xs) ys =
-    let e = number-append xs ys in
-    number-cons x (xs ++ ys) ∙ rw (e, length-append, pow-add, ← mul-assoc, add-mul) (omega arith)
-
 -- the octets at a place, from the first to the last, each in its digit
 abbrev pub digitsAt : ℕ → List ℕ → ℕ → ℕ
 digitsAt zero s at = 0
@@ -61,17 +54,6 @@ number-digits (suc (suc w)) s at h =
 -- the one fact over the width: what a reading of w octets computes
 pub numberAt-digits : (w : ℕ) (s : List ℕ) (at : ℕ) → at + w ≤ length s → numberAt w s at ≡ digitsAt w s at
 numberAt-digits w s at h = numberAt-in w s at h ∙ number-digits w s at h
-
--- a number of v + w octets is made of one of v and one of w
-pub numberAt-joined : (v w : ℕ) (s : List ℕ) (at : ℕ) → at + (v + w) ≤ length s
-    → numberAt (v + w) s at ≡ numberAt v s at * 256 ^ w + numberAt w s (at + v)
-numberAt-joined v w s at h =
-    let k : length (take w (drop (at + v) s)) ≡ w = length-take-le w (drop (at + v) s) (simp length-drop (omega arith)) in
-    let whole : number (take (v + w) (drop at s)) ≡ number (take v (drop at s)) * 256 ^ w + number (take w (drop (at + v) s)) =
-    ap number (take-add v w (drop at s) ∙ ap (λ (l : List ℕ). take v (drop at s) ++ take w l) (drop-drop v at s))
-    ∙ number-append (take v (drop at s)) (take w (drop (at + v) s))
-    ∙ rw k in
-    rw (numberAt-in (v + w) s at h, numberAt-in v s at (omega arith), numberAt-in w s (at + v) (omega arith)) whole
 
 -- a reading of octets that do not lie in s
 pub no-number : (w : ℕ) (s : List ℕ) (at : ℕ) → length s < at + w → IsNumber w (numberAt w s at) 0

@@ -1,10 +1,10 @@
 -- What checks that passed tell: of an AVP its frame, its flags, and that it is the one at its place.
-use mathlib.Core.Path.{_≡_, refl, sym}
+use mathlib.Core.Path.{_≡_, refl, sym, ap}
 use mathlib.Core.Bool.{Bool, true, false, cond, not, _&&_, _||_}
 use mathlib.Core.List.{List}
 use Prim.Native.Nat.{ℕ, _+_, _-_, _%_, _≤_, _<_}
 use native.Mathlib.Omega.{arith}
-use borrow.Author.Tests.{ltb-false, leb-false, eqb-true, not-false}
+use borrow.Author.Tests.{ltb-false, leb-true, leb-false, eqb-true, not-false}
 use lib.Dec.{ltb, eqb}
 use Rattle.rules.specs.declared.Avp.{Avp}
 use Rattle.rules.specs.declared.Verdict.{Verdict}
@@ -15,13 +15,13 @@ use Rattle.rules.specs.declared.Checked.the-variants.{Fault, Plain, Grou
 use Rattle.rules.specs.declared.Definition.{Definition}
 use Rattle.rules.specs.Octets.{numberAt, padded}
 use Rattle.rules.specs.Verdict.{refuseIf}
-use Rattle.rules.specs.Avp.{flagsAt, flagV, lengthAt, headerOf, avpAt}
+use Rattle.rules.specs.Avp.{flagsAt, flagV, lengthAt, headerOf, nextAt, avpAt, endOf}
 use Rattle.rules.specs.Dictionary.{Entry, defined, requiresM, isGroup}
-use Rattle.rules.specs.Walk.{framedBy, framing, wrongFlags, unsupported, wrongWidth, wrongValue, tooDeep, contents, settled, checkedAvp, checked}
+use Rattle.rules.specs.Walk.{Standing, mostAvps, isFull, framing, wrongFlags, unsupported, wrongWidth, wrongValue, tooDeep, contents, settled, checkedAvp, checked}
 use Rattle.rules.proofs.Octets.{padded-least}
 use Rattle.rules.proofs.Tests.{neither}
-use Rattle.rules.proofs.Fields.{header-least}
-use Rattle.rules.proofs.Walk.{never}
+use Rattle.rules.proofs.Fields.{avpAt-start, avpAt-end, header-least, padded-header}
+use Rattle.rules.proofs.Walk.{by-cases, never, checked-many}
 
 -- a check that lets pass did not apply
 pub not-refused : (b : Bool) (v : Verdict) (o : Outcome) → refuseIf b (Refused v) o ≡ Pass → (b ≡ false) × (o ≡ Pass)
@@ -36,7 +36,7 @@ pub record Framed (s : List ℕ) (at end : ℕ) : Type 0 where
   pub fits : at + padded (lengthAt s at) ≤ end
 
 pub framed : (s : List ℕ) (at end : ℕ) → framing s at end ≡ Pass → Framed s at end
-unfolding framing framedBy
+unfolding framing
 framed s at end pass =
     let v = flagV (flagsAt s at) in
     let few = not-refused (ltb (end - at) 8) _ _ pass in
@@ -86,7 +86,7 @@ contents-level : (s : List ℕ) (at : ℕ) (a : Avp) (d : Definition) → conten
 unfolding tooDeep
 contents-level s at a d e g = leb-false 4 (a .depth) (rw g at (passed s at a d e .level))
 
--- ---- checks 2 to 7
+-- ---- the seven checks
 
 no-fault : (o : Outcome) (c x : Checked) → settled o c ≡ x → ((v : Verdict) → x ≡ Fault v → ⊥) → (o ≡ Pass) × (c ≡ x)
 no-fault Pass c x e n = (refl, e)
@@ -100,29 +100,80 @@ group-of : (b : Bool) (a x : Avp) → cond b (Group a) (Plain a) ≡ Group x →
 group-of true a x e = (refl, cc)
 group-of false a x e = let z : _≡_ {A = ℕ} 0 1 = cc in absurd (omega arith)
 
-module _ (dict : List Entry) (s : List ℕ) (at end depth : ℕ) where
-  checked-pass : (x : Checked) → checked dict s at end depth ≡ x → ((v : Verdict) → x ≡ Fault v → ⊥)
-      → (framing s at end ≡ Pass) × (checkedAvp dict s at (avpAt s at depth) ≡ x)
+module _ (dict : List Entry) (s : List ℕ) (w : Standing) where
+  checked-pass : (x : Checked) → checked dict s w ≡ x → ((v : Verdict) → x ≡ Fault v → ⊥)
+      → (framing s (w .at) (w .end) ≡ Pass) × (checkedAvp dict s (w .at) (avpAt s (w .at) (w .depth)) ≡ x)
   unfolding checked
-  checked-pass x e n = no-fault (framing s at end) (checkedAvp dict s at (avpAt s at depth)) x e n
+  checked-pass x e n =
+      by-cases (isFull w)
+      (λ f. absurd (n _ (sym (rw f at e))))
+      (λ f. no-fault (framing s (w .at) (w .end)) (checkedAvp dict s (w .at) (avpAt s (w .at) (w .depth))) x (rw f at e) n)
+
+  -- the record had room for it
+  pub passed-few : ((v : Verdict) → checked dict s w ≡ Fault v → ⊥) → w .count < mostAvps
+  passed-few n =
+      by-cases (isFull w)
+      (λ f. absurd (n _ (checked-many dict s w (leb-true _ _ f))))
+      (λ f. leb-false _ _ f)
 
   -- a plain AVP is the one at its place
-  pub plain-is : {a : Avp} → checked dict s at end depth ≡ Plain a → (framing s at end ≡ Pass) × (a ≡ avpAt s at depth)
+  plain-is : {a : Avp} → checked dict s w ≡ Plain a
+      → (framing s (w .at) (w .end) ≡ Pass) × (a ≡ avpAt s (w .at) (w .depth))
   plain-is {a} e =
       let n : (v : Verdict) → Plain a ≡ Fault v → ⊥ = λ v f. let z : _≡_ {A = ℕ} 0 1 = cc in omega arith in
       let f = checked-pass (Plain a) e n in
-      let x = avpAt s at depth in
-      let c = no-fault (contents s at x (defined dict x)) (cond (isGroup (defined dict x)) (Group x) (Plain x)) (Plain a) (f .1) n in
-      (f .0, sym (plain-of (isGroup (defined dict x)) x a (c .1)))
+      let x = avpAt s (w .at) (w .depth) in
+      let d = defined dict x in
+      let c = no-fault (contents s (w .at) x d) (cond (isGroup d) (Group x) (Plain x)) (Plain a) (f .1) n in
+      (f .0, sym (plain-of (isGroup d) x a (c .1)))
 
   -- so is a group, and it stands no deeper than 3
-  pub group-is : {a : Avp} → checked dict s at end depth ≡ Group a
-      → (framing s at end ≡ Pass) × (a ≡ avpAt s at depth) × (a .depth < 4)
+  pub group-is : {a : Avp} → checked dict s w ≡ Group a
+      → (framing s (w .at) (w .end) ≡ Pass) × (a ≡ avpAt s (w .at) (w .depth)) × (a .depth < 4)
   group-is {a} e =
       let n : (v : Verdict) → Group a ≡ Fault v → ⊥ = λ v f. let z : _≡_ {A = ℕ} 0 1 = cc in omega arith in
       let f = checked-pass (Group a) e n in
-      let x = avpAt s at depth in
-      let c = no-fault (contents s at x (defined dict x)) (cond (isGroup (defined dict x)) (Group x) (Plain x)) (Group a) (f .1) n in
-      let g = group-of (isGroup (defined dict x)) x a (c .1) in
-      let l = contents-level s at x (defined dict x) (c .0) (g .0) in
+      let x = avpAt s (w .at) (w .depth) in
+      let d = defined dict x in
+      let c = no-fault (contents s (w .at) x d) (cond (isGroup d) (Group x) (Plain x)) (Group a) (f .1) n in
+      let g = group-of (isGroup d) x a (c .1) in
+      let l = contents-level s (w .at) x d (c .0) (g .0) in
       (f .0, sym (g .1), rw (g .1) at l)
+
+-- ---- where an AVP that passes lies
+
+-- header, data and padding are in the list, and the next AVP stands behind them
+pub record InFrame (s : List ℕ) (w : Standing) (a : Avp) : Type 0 where
+  pub start : w .at + 8 ≤ a .start
+  pub inner : endOf a ≤ w .end
+  pub next : a .start + padded (a .length) ≡ nextAt s (w .at)
+  pub on : w .at < nextAt s (w .at)
+  pub inside : nextAt s (w .at) ≤ w .end
+
+next-after : (s : List ℕ) (at depth : ℕ) → headerOf (flagV (flagsAt s at)) ≤ lengthAt s at
+    → avpAt s at depth .start + padded (avpAt s at depth .length) ≡ nextAt s at
+unfolding avpAt
+next-after s at depth h =
+    let v = flagV (flagsAt s at) in
+    let e : headerOf v + (lengthAt s at - headerOf v) ≡ lengthAt s at = omega arith in
+    omega (arith, ap padded e, padded-header v (lengthAt s at - headerOf v))
+
+in-frame : (s : List ℕ) (w : Standing) → framing s (w .at) (w .end) ≡ Pass → InFrame s w (avpAt s (w .at) (w .depth))
+in-frame s w pass =
+    let f = framed s (w .at) (w .end) pass in
+    let begin = avpAt-start s (w .at) (w .depth) in
+    let stop = avpAt-end s (w .at) (w .depth) (f .header) in
+    record {
+      start = omega (arith, f);
+      inner = omega (arith, f);
+      next = next-after s (w .at) (w .depth) (f .header);
+      on = omega (arith, f);
+      inside = f .fits;
+    }
+
+module _ (dict : List Entry) (s : List ℕ) (w : Standing) where
+  pub plain-framed : {a : Avp} → checked dict s w ≡ Plain a → InFrame s w a
+  plain-framed e = let i = plain-is dict s w e in rw (i .1) (in-frame s w (i .0))
+
+  pub group-framed : {a : Avp} → checked dict s w ≡ Group a → InFrame s w a
+  group-framed e = let i = group-is dict s w e in rw (i .1) (in-frame s w (i .0))

@@ -1,21 +1,21 @@
 -- Laws of the walk's definitions, case by case: the checks of an AVP, one AVP, and the list. They hold for every dictionary.
 use mathlib.Core.Path.{_≡_, refl, _∙_}
-use mathlib.Core.Bool.{Bool, true, false}
+use mathlib.Core.Bool.{Bool, true, false, cond}
 use mathlib.Core.List.{List, [], _∷_, _++_, append-assoc}
 use Prim.Native.Nat.{ℕ, zero, suc, _+_, _-_, _≤_, _<_}
 use native.Mathlib.Omega.{arith}
 use borrow.Author.Tests.{lt-ltb, le-ltb, le-leb, lt-leb}
-use lib.ListN.{length}
+use lib.Dec.{ltb}
 use Rattle.rules.specs.declared.Avp.{Avp}
 use Rattle.rules.specs.declared.Verdict.{Verdict}
 use Rattle.rules.specs.declared.Outcome.the-variants.{Pass, Refused}
 use Rattle.rules.specs.declared.Checked.the-variants.{Fault, Plain, Group}
 use Rattle.rules.specs.declared.Definition.{Definition}
 use Rattle.rules.specs.Octets.{numberAt, padded}
-use Rattle.rules.specs.Verdict.{verdict, refused}
-use Rattle.rules.specs.Avp.{codeAt, flagsAt, flagV, lengthAt, nextAt, avpAt}
+use Rattle.rules.specs.Verdict.{verdict, refused, refuseIf}
+use Rattle.rules.specs.Avp.{codeAt, flagsAt, flagV, lengthAt, headerOf, avpAt}
 use Rattle.rules.specs.Dictionary.{Entry, defined, isGroup}
-use Rattle.rules.specs.Walk.{framedBy, framing, wrongFlags, unsupported, wrongWidth, wrongValue, tooDeep, contents, checkedAvp, checked, Walked, whole, stopped, avpsOf, after, andThen, walkAvp, walkList}
+use Rattle.rules.specs.Walk.{Standing, mostAvps, framing, wrongFlags, unsupported, wrongWidth, wrongValue, tooDeep, contents, checkedAvp, checked, Walked, whole, stopped, avpsOf, after, andThen, inGroup, behind, walkAvp, walkList}
 
 -- a test holds or it does not
 pub by-cases : {C : Type 0} (b : Bool) → (b ≡ true → C) → (b ≡ false → C) → C
@@ -28,40 +28,32 @@ never e = let z : _≡_ {A = ℕ} 0 1 = cc in absurd (omega arith)
 
 -- ---- check 2
 
-module _ (at left header size vendor code : ℕ) where
-  pub framedBy-short : size < header → framedBy at left header size vendor code ≡ refused 5014 at vendor code
-  unfolding framedBy
-  framedBy-short h = rw (lt-ltb size header h)
-
-  pub framedBy-long : header ≤ size → left < padded size → framedBy at left header size vendor code ≡ refused 5014 at vendor code
-  unfolding framedBy
-  framedBy-long h k = rw (le-ltb size header h, lt-ltb left (padded size) k)
-
-  pub framedBy-pass : header ≤ size → padded size ≤ left → framedBy at left header size vendor code ≡ Pass
-  unfolding framedBy
-  framedBy-pass h k = rw (le-ltb size header h, le-ltb left (padded size) k)
-
 module _ (s : List ℕ) (at end : ℕ) where
   pub framing-left : end - at < 8 → framing s at end ≡ refused 5014 at 0 0
   unfolding framing
   framing-left h = rw (lt-ltb (end - at) 8 h)
-
-  pub framing-plain : 8 ≤ end - at → flagV (flagsAt s at) ≡ false
-      → framing s at end ≡ framedBy at (end - at) 8 (lengthAt s at) 0 (codeAt s at)
-  unfolding framing
-  framing-plain h v = rw (le-ltb (end - at) 8 h, v)
 
   pub framing-vendor-left : 8 ≤ end - at → flagV (flagsAt s at) ≡ true → end - at < 12
       → framing s at end ≡ refused 5014 at 0 (codeAt s at)
   unfolding framing
   framing-vendor-left h v k = rw (le-ltb (end - at) 8 h, v, lt-ltb (end - at) 12 k)
 
-  pub framing-vendor : 12 ≤ end - at → flagV (flagsAt s at) ≡ true
-      → framing s at end ≡ framedBy at (end - at) 12 (lengthAt s at) (numberAt 4 s (at + 8)) (codeAt s at)
+  -- a header that the list holds: what is left is to test the length field
+  pub framing-by : (v : Bool) → flagV (flagsAt s at) ≡ v → headerOf v ≤ end - at
+      → framing s at end
+      ≡ refuseIf (ltb (lengthAt s at) (headerOf v)) (refused 5014 at (cond v (numberAt 4 s (at + 8)) 0) (codeAt s at))
+      (refuseIf (ltb (end - at) (padded (lengthAt s at))) (refused 5014 at (cond v (numberAt 4 s (at + 8)) 0) (codeAt s at))
+      Pass)
   unfolding framing
-  framing-vendor h v =
+  framing-by true e h =
       let k : 8 ≤ end - at = omega arith in
-      rw (le-ltb (end - at) 8 k, v, le-ltb (end - at) 12 h)
+      rw (le-ltb (end - at) 8 k, e, le-ltb (end - at) 12 h)
+  framing-by false e h = rw (le-ltb (end - at) 8 h, e)
+
+  pub framing-pass : (v : Bool) → flagV (flagsAt s at) ≡ v → headerOf v ≤ end - at → headerOf v ≤ lengthAt s at
+      → padded (lengthAt s at) ≤ end - at → framing s at end ≡ Pass
+  framing-pass v e h k l =
+      framing-by v e h ∙ rw (le-ltb (lengthAt s at) (headerOf v) k, le-ltb (end - at) (padded (lengthAt s at)) l)
 
 -- ---- checks 3 to 7
 
@@ -94,26 +86,32 @@ module _ (s : List ℕ) (at : ℕ) (a : Avp) (d : Definition) where
           unfolding contents
           contents-pass h = rw (flags, known, width, value, h)
 
--- ---- checks 2 to 7
+-- ---- the seven checks
 
-module _ (dict : List Entry) (s : List ℕ) (at end depth : ℕ) where
-  pub checked-frame : {v : Verdict} → framing s at end ≡ Refused v → checked dict s at end depth ≡ Fault v
+module _ (dict : List Entry) (s : List ℕ) (w : Standing) where
+  pub checked-many : mostAvps ≤ w .count → checked dict s w ≡ Fault (verdict 7002 (w .at) 0 0)
   unfolding checked
-  checked-frame e = rw e
+  checked-many h = rw (le-leb mostAvps (w .count) h)
 
-  module _ (pass : framing s at end ≡ Pass) (a : Avp) (is : a ≡ avpAt s at depth) (d : Definition) (says : d ≡ defined dict a) where
-    checked-on : checked dict s at end depth ≡ checkedAvp dict s at a
+  module _ (few : w .count < mostAvps) where
+    pub checked-frame : {v : Verdict} → framing s (w .at) (w .end) ≡ Refused v → checked dict s w ≡ Fault v
     unfolding checked
-    checked-on = rw (pass, is)
+    checked-frame e = rw (lt-leb mostAvps (w .count) few, e)
 
-    pub checked-content : {v : Verdict} → contents s at a d ≡ Refused v → checked dict s at end depth ≡ Fault v
-    checked-content e = checked-on ∙ rw (← says, e)
+    module _ (pass : framing s (w .at) (w .end) ≡ Pass) (a : Avp) (is : a ≡ avpAt s (w .at) (w .depth)) where
+      pub checked-on : checked dict s w ≡ checkedAvp dict s (w .at) a
+      unfolding checked
+      checked-on = rw (lt-leb mostAvps (w .count) few, pass, is)
 
-    pub checked-group : contents s at a d ≡ Pass → isGroup d ≡ true → checked dict s at end depth ≡ Group a
-    checked-group e g = checked-on ∙ rw (← says, e, g)
+      module _ (d : Definition) (says : d ≡ defined dict a) where
+        pub checked-content : {v : Verdict} → contents s (w .at) a d ≡ Refused v → checked dict s w ≡ Fault v
+        checked-content e = checked-on ∙ rw (← says, e)
 
-    pub checked-plain : contents s at a d ≡ Pass → isGroup d ≡ false → checked dict s at end depth ≡ Plain a
-    checked-plain e g = checked-on ∙ rw (← says, e, g)
+        pub checked-group : contents s (w .at) a d ≡ Pass → isGroup d ≡ true → checked dict s w ≡ Group a
+        checked-group e g = checked-on ∙ rw (← says, e, g)
+
+        pub checked-plain : contents s (w .at) a d ≡ Pass → isGroup d ≡ false → checked dict s w ≡ Plain a
+        checked-plain e g = checked-on ∙ rw (← says, e, g)
 
 -- ---- walks: AVPs before, and AVPs after
 
@@ -131,38 +129,34 @@ avps-after xs (stopped zs v) = refl
 
 -- ---- one AVP
 
-module _ (list : ℕ → ℕ → ℕ → ℕ → Walked) (dict : List Entry) (s : List ℕ) (at end depth count : ℕ) where
-  pub avp-many : 256 ≤ count → walkAvp list dict s at end depth count ≡ stopped [] (verdict 7002 at 0 0)
+module _ (list : Standing → Walked) (dict : List Entry) (s : List ℕ) (w : Standing) where
+  pub avp-fault : {v : Verdict} → checked dict s w ≡ Fault v → walkAvp list dict s w ≡ stopped [] v
   unfolding walkAvp
-  avp-many h = rw (le-leb 256 count h)
+  avp-fault e = rw e
 
-  module _ (few : count < 256) where
-    pub avp-fault : {v : Verdict} → checked dict s at end depth ≡ Fault v → walkAvp list dict s at end depth count ≡ stopped [] v
-    unfolding walkAvp
-    avp-fault e = rw (lt-leb 256 count few, e)
+  pub avp-plain : {a : Avp} → checked dict s w ≡ Plain a → walkAvp list dict s w ≡ whole (a ∷ [])
+  unfolding walkAvp
+  avp-plain e = rw e
 
-    pub avp-plain : {a : Avp} → checked dict s at end depth ≡ Plain a → walkAvp list dict s at end depth count ≡ whole (a ∷ [])
-    unfolding walkAvp
-    avp-plain e = rw (lt-leb 256 count few, e)
+  pub avp-group : {a : Avp} → checked dict s w ≡ Group a → walkAvp list dict s w ≡ after (a ∷ []) (list (inGroup w a))
+  unfolding walkAvp
+  avp-group e = rw e
 
-    pub avp-group : {a : Avp} → checked dict s at end depth ≡ Group a
-        → walkAvp list dict s at end depth count ≡ after (a ∷ []) (list (a .start) (a .start + a .length) (depth + 1) (count + 1))
-    unfolding walkAvp
-    avp-group e = rw (lt-leb 256 count few, e)
+  pub avp-many : mostAvps ≤ w .count → walkAvp list dict s w ≡ stopped [] (verdict 7002 (w .at) 0 0)
+  avp-many h = avp-fault (checked-many dict s w h)
 
 -- ---- the list
 
-pub list-none : (dict : List Entry) (s : List ℕ) (at end depth count : ℕ) → walkList zero dict s at end depth count ≡ whole []
+pub list-none : (dict : List Entry) (s : List ℕ) (w : Standing) → walkList zero dict s w ≡ whole []
 unfolding walkList
-list-none dict s at end depth count = refl
+list-none dict s w = refl
 
-pub list-end : (n : ℕ) (dict : List Entry) (s : List ℕ) (at end depth count : ℕ) → end ≤ at → walkList n dict s at end depth count ≡ whole []
+pub list-end : (n : ℕ) (dict : List Entry) (s : List ℕ) (w : Standing) → w .end ≤ w .at → walkList n dict s w ≡ whole []
 unfolding walkList
-list-end zero dict s at end depth count h = refl
-list-end (suc n) dict s at end depth count h = rw (le-ltb at end h)
+list-end zero dict s w h = refl
+list-end (suc n) dict s w h = rw (le-ltb (w .at) (w .end) h)
 
-pub list-more : (n : ℕ) (dict : List Entry) (s : List ℕ) (at end depth count : ℕ) → at < end
-    → walkList (suc n) dict s at end depth count
-    ≡ andThen (walkAvp (walkList n dict s) dict s at end depth count) (λ k. walkList n dict s (nextAt s at) end depth (count + k))
+pub list-more : (n : ℕ) (dict : List Entry) (s : List ℕ) (w : Standing) → w .at < w .end
+    → walkList (suc n) dict s w ≡ andThen (walkAvp (walkList n dict s) dict s w) (λ k. walkList n dict s (behind s w k))
 unfolding walkList
-list-more n dict s at end depth count h = rw (lt-ltb at end h)
+list-more n dict s w h = rw (lt-ltb (w .at) (w .end) h)

@@ -18,27 +18,31 @@ digits (suc k) n = cond (ltb n 10) ((48 + n) ∷ []) (digits k (n / 10) ++ ((48 
 abbrev pub decimal : ℕ → List ℕ
 decimal n = digits 10 n
 
+-- the octets between numbers and behind a line
 abbrev pub space : ℕ
 space = 32
 
 abbrev pub newline : ℕ
 newline = 10
 
--- numbers of a line, one space between
+-- numbers in decimal, each behind one space
 abbrev pub spaced : List ℕ → List ℕ
 spaced [] = []
 spaced (n ∷ ns) = space ∷ decimal n ++ spaced ns
 
--- "NTB 1", "end", "cut", "not a book"
+-- the line "NTB 1"
 abbrev pub headLine : List ℕ
 headLine = 78 ∷ 84 ∷ 66 ∷ 32 ∷ 49 ∷ newline ∷ []
 
+-- the word "end"
 abbrev pub endWord : List ℕ
 endWord = 101 ∷ 110 ∷ 100 ∷ []
 
+-- the word "cut"
 abbrev pub cutWord : List ℕ
 cutWord = 99 ∷ 117 ∷ 116 ∷ []
 
+-- the line "not a book"
 abbrev pub notABook : List ℕ
 notABook = 110 ∷ 111 ∷ 116 ∷ 32 ∷ 97 ∷ 32 ∷ 98 ∷ 111 ∷ 111 ∷ 107 ∷ newline ∷ []
 
@@ -71,7 +75,8 @@ commandIn s at = take (lengthOf s at) (drop at s)
 abbrev pub acceptance : Verdict → ℕ
 acceptance v = cond (eqb (v .number) 0) 1 0
 
--- the lines from an offset on, after this many commands and acceptances. The first argument bounds the lines
+-- the lines from an offset on, after this many commands and acceptances. The first argument bounds the lines; as many
+-- as there are octets left are enough (proofs/Steps)
 unfoldable pub linesFrom : ℕ → List ℕ → ℕ → ℕ → ℕ → List ℕ
 linesFrom zero s at commands accepted = []
 linesFrom (suc n) s at commands accepted =
@@ -80,18 +85,19 @@ linesFrom (suc n) s at commands accepted =
     (commandLine (commands + 1) at (commandVerdict (commandIn s at))
     ++ linesFrom n s (at + lengthOf s at) (commands + 1) (accepted + acceptance (commandVerdict (commandIn s at)))))
 
--- the letters NTB, a 16-bit version 1
+-- the octets of the letters NTB and of a 16-bit version
 abbrev pub bookHead : ℕ
 bookHead = 5
 
+-- a book has at most 65,536 octets
 abbrev pub longestBook : ℕ
 longestBook = 65536
 
--- a head, and no more than 65,536 octets
+-- the letters NTB, version 1, and no more than 65,536 octets
 unfoldable pub isBook : List ℕ → Bool
 isBook s =
     leb bookHead (length s) && leb (length s) longestBook && eqb (numberAt 3 s 0) 0x4e5442 && eqb (numberAt 2 s 3) 1
 
--- the whole listing
+-- the whole listing. One without `end` is no pass
 unfoldable pub listing : List ℕ → List ℕ
 listing s = cond (isBook s) (headLine ++ linesFrom (length s) s bookHead 0 0) notABook

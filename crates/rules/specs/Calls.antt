@@ -6,7 +6,8 @@ use mathlib.Core.List.{List, [], _∷_, _++_}
 use mathlib.Core.Bool.{cond}
 use lib.Dec.{eqb}
 use lib.ListN.{take, drop}
-use Rattle.rules.specs.Writer.{Draft, draftMeaning, writing, outputAfter}
+use Rattle.rules.specs.Draft.{Draft, draftMeaning}
+use Rattle.rules.specs.Writer.{writing, outputAfter}
 
 -- what a call wrote: of its output as it stands afterwards, as much as its answer says
 abbrev pub front : Draft → List ℕ → List ℕ

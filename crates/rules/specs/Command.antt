@@ -12,7 +12,7 @@ use Rattle.rules.specs.declared.Grammar.the-variants.{Request, Answer}
 use Rattle.rules.specs.Verdict.{orElse, verdictOf}
 use Rattle.rules.specs.Header.{headerSize, headerOutcome, commandFlags, isRequest}
 use Rattle.rules.specs.Dictionary.{dictionary}
-use Rattle.rules.specs.Walk.{Walked, whole, stopped, walkList}
+use Rattle.rules.specs.Walk.{Standing, Walked, whole, stopped, walkList}
 use Rattle.rules.specs.RowChecks.{rowsOutcome}
 use Rattle.rules.specs.Exchange.{exchangeOutcome}
 
@@ -20,9 +20,13 @@ use Rattle.rules.specs.Exchange.{exchangeOutcome}
 abbrev pub commandGrammar : ℕ → Grammar
 commandGrammar flags = cond (isRequest flags) Request Answer
 
--- the walk of a command's own list, which is at depth 1
+-- the command's own list, which is at depth 1
+abbrev pub ownList : List ℕ → Standing
+ownList s = record { at = headerSize; end = length s; depth = 1; count = 0 }
+
+-- its walk; as many steps as the command has octets are enough
 unfoldable pub walkOf : List ℕ → Walked
-walkOf s = walkList (length s) dictionary s headerSize (length s) 1 0
+walkOf s = walkList (length s) dictionary s (ownList s)
 
 -- rows and exchange rules over the AVPs of the walk
 unfoldable pub listsOutcome : List ℕ → List Avp → Outcome
@@ -30,10 +34,12 @@ listsOutcome s xs =
     orElse (rowsOutcome dictionary (commandGrammar (commandFlags s)) (length s) xs)
     (exchangeOutcome (isRequest (commandFlags s)) xs s (length s))
 
+-- a fault of the walk is the answer, however its lists would be judged; else rows and exchange rules
 abbrev pub walkedOutcome : List ℕ → Walked → Outcome
 walkedOutcome s (whole xs) = listsOutcome s xs
 walkedOutcome s (stopped xs v) = Refused v
 
+-- header, walk, rows, exchange rules, windows
 unfoldable pub commandOutcome : List ℕ → Outcome
 commandOutcome s = orElse (headerOutcome s) (walkedOutcome s (walkOf s))
 

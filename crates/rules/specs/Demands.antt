@@ -5,9 +5,9 @@ use Prim.Native.Nat.{ℕ}
 use mathlib.Core.List.{List, _++_}
 use lib.ListN.{length, drop}
 use Rattle.rules.specs.Command.{commandVerdict}
-use Rattle.rules.specs.Record.{reading}
 use Rattle.rules.specs.Meaning.{meaningOf}
-use Rattle.rules.specs.Writer.{Draft, draftMeaning, writing, outputAfter}
+use Rattle.rules.specs.Draft.{Draft, ownDraft, draftMeaning}
+use Rattle.rules.specs.Writer.{writing, outputAfter}
 use Rattle.rules.specs.Calls.{front, rest, allWritten, outputAfterAll, toldLength}
 
 -- 01, What comes back: accepted is the number 0
@@ -29,11 +29,7 @@ pub record WroteMeaning (d : Draft) (out : List ℕ) : Type 0 where
   pub means : meaningOf (front d out) ≡ draftMeaning d
   pub long : length (front d out) ≡ writing d out .length
 
--- the draft of a command: its own record over its octets
-abbrev pub ownDraft : List ℕ → Draft
-ownDraft c = record { «record» = reading c .«record»; octets = c }
-
--- that draft is accepted; what the call wrote is an accepted command with the command's meaning, and as long
+-- the draft of a command's own record is accepted; what the call wrote is an accepted command with the command's meaning, and as long
 pub record Rewritten (c out : List ℕ) : Type 0 where
   pub call : AcceptedWrite (ownDraft c) out
   pub again : AcceptedCommand (front (ownDraft c) out)

@@ -1,4 +1,5 @@
--- 01, Dictionary: its entries, and the search for a name.
+-- 01, Dictionary: its entries, and the search for a name. Not judged is what stands in data of any length: the text of
+-- strings and identities, addresses, and anything inside 279, 621, 623, 650 or an AVP that the dictionary lacks.
 use Prim.Native.Nat.{ℕ}
 use mathlib.Core.List.{List, [], _∷_, _++_}
 use mathlib.Core.Bool.{Bool, true, false, cond, _&&_}
@@ -10,8 +11,10 @@ use Rattle.rules.specs.declared.Definition.{Definition}
 use Rattle.rules.specs.declared.Definition.the-variants.{Known, Unknown}
 use Rattle.rules.specs.declared.Members.{Members}
 use Rattle.rules.specs.declared.Members.the-variants.{Under, NoMembers}
+use Rattle.rules.specs.Header.{vendor3GPP}
 use Rattle.rules.specs.declared.Grammar.the-variants.{VendorSpecificApplicationId, ExperimentalResult, ProxyInfo, SupportedFeatures, TimeWindow, TransferPolicy}
 
+-- an entry: the name, whether M must be set, and the form of the data
 pub record Entry : Type 0 where
   pub vendor : ℕ
   pub code : ℕ
@@ -26,28 +29,28 @@ entries vendor m form (code ∷ codes) = record { vendor = vendor; code = code; 
 -- the dictionary of the Nt application
 unfoldable pub dictionary : List Entry
 dictionary =
-    -- RFC 6733, no vendor
+    -- RFC 6733, no vendor, M; 281 and 294 M free
     entries 0 true (Fixed 4) (258 ∷ 259 ∷ 261 ∷ 262 ∷ 266 ∷ 268 ∷ 277 ∷ 278 ∷ 298 ∷ [])
-    ++ (entries 0 true Any (263 ∷ 264 ∷ 296 ∷ 293 ∷ 283 ∷ 292 ∷ 280 ∷ 33 ∷ 282 ∷ 279 ∷ [])
-    ++ (entries 0 false Any (281 ∷ 294 ∷ [])
-    ++ (entries 0 true (Group VendorSpecificApplicationId) (260 ∷ [])
-    ++ (entries 0 true (Group ExperimentalResult) (297 ∷ [])
-    ++ (entries 0 true (Group ProxyInfo) (284 ∷ [])
-    -- RFC 4006, no vendor
-    ++ (entries 0 true (Fixed 4) (432 ∷ [])
-    ++ (entries 0 true (Fixed 8) (412 ∷ 414 ∷ 421 ∷ [])
+    ++ entries 0 true Any (263 ∷ 264 ∷ 296 ∷ 293 ∷ 283 ∷ 292 ∷ 280 ∷ 33 ∷ 282 ∷ 279 ∷ [])
+    ++ entries 0 false Any (281 ∷ 294 ∷ [])
+    ++ entries 0 true (Group VendorSpecificApplicationId) (260 ∷ [])
+    ++ entries 0 true (Group ExperimentalResult) (297 ∷ [])
+    ++ entries 0 true (Group ProxyInfo) (284 ∷ [])
+    -- RFC 4006, no vendor, M
+    ++ entries 0 true (Fixed 4) (432 ∷ [])
+    ++ entries 0 true (Fixed 8) (412 ∷ 414 ∷ 421 ∷ [])
     -- no vendor, M free
-    ++ (entries 0 false (Fixed 4) (301 ∷ [])
-    ++ (entries 0 false Any (621 ∷ 623 ∷ 650 ∷ [])
+    ++ entries 0 false (Fixed 4) (301 ∷ [])
+    ++ entries 0 false Any (621 ∷ 623 ∷ 650 ∷ [])
     -- 3GPP, M free
-    ++ (entries 10415 false (Fixed 4) (629 ∷ 630 ∷ [])
-    ++ (entries 10415 false Any (532 ∷ 2207 ∷ [])
-    ++ (entries 10415 false (Group SupportedFeatures) (628 ∷ [])
+    ++ entries vendor3GPP false (Fixed 4) (629 ∷ 630 ∷ [])
+    ++ entries vendor3GPP false Any (532 ∷ 2207 ∷ [])
+    ++ entries vendor3GPP false (Group SupportedFeatures) (628 ∷ [])
     -- 3GPP, M
-    ++ (entries 10415 true (Fixed 4) (515 ∷ 516 ∷ 4203 ∷ 4205 ∷ 4206 ∷ 4208 ∷ 4209 ∷ [])
-    ++ (entries 10415 true Any (4201 ∷ 4202 ∷ [])
-    ++ (entries 10415 true (Group TimeWindow) (4204 ∷ [])
-    ++ entries 10415 true (Group TransferPolicy) (4207 ∷ []))))))))))))))))
+    ++ entries vendor3GPP true (Fixed 4) (515 ∷ 516 ∷ 4203 ∷ 4205 ∷ 4206 ∷ 4208 ∷ 4209 ∷ [])
+    ++ entries vendor3GPP true Any (4201 ∷ 4202 ∷ [])
+    ++ entries vendor3GPP true (Group TimeWindow) (4204 ∷ [])
+    ++ entries vendor3GPP true (Group TransferPolicy) (4207 ∷ [])
 
 -- what a dictionary says of a vendor and a code
 unfoldable pub find : List Entry → ℕ → ℕ → Definition

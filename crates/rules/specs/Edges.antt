@@ -1,96 +1,176 @@
--- 01, Commands at the edges: the marked cases as one theorem over a list, and the listing of the worked book.
+-- 01, Commands at the edges: the cases that it marks (p) as one theorem over a list, the listing of the book that it works
+-- out, and further cases, of requests, answers and groups, whose answers follow from its rules. All are computed from the
+-- definitions. Numbers stand as 01 prints them.
 use mathlib.Core.Path.{_≡_, refl}
 use Prim.Native.Nat.{ℕ}
 use mathlib.Core.List.{List, [], _∷_, _++_, map}
 use Rattle.rules.specs.declared.Verdict.{Verdict}
-use Rattle.rules.specs.Octets.{numberAt, padded}
+use Rattle.rules.specs.Octets.{numberAt, padded, octets}
 use Rattle.rules.specs.Verdict.{verdict}
-use Rattle.rules.specs.Header.{lengthOutcome, applicationOutcome, flagsOutcome, headerOutcome}
+use Rattle.rules.specs.Header.{applicationNt, codeBackgroundDataTransfer, vendor3GPP, lengthOutcome, applicationOutcome, flagsOutcome, headerOutcome}
 use Rattle.rules.specs.Avp.{avpAt}
 use Rattle.rules.specs.Rows.{rowsOf, admitsOthers}
 use Rattle.rules.specs.Dictionary.{dictionary, find}
-use Rattle.rules.specs.Walk.{framedBy, framing, wrongFlags, unsupported, wrongWidth, wrongValue, tooDeep, contents, checked, walkAvp, walkList}
+use Rattle.rules.specs.Walk.{framing, wrongFlags, unsupported, wrongWidth, wrongValue, tooDeep, contents, checked, walkAvp, walkList}
 use Rattle.rules.specs.RowChecks.{admissionFrom, memberOutcome, missingFrom, membersOutcome, membersAt, groupsOutcome, rowsOutcome}
 use Rattle.rules.specs.Search.{firstFrom}
 use Rattle.rules.specs.Exchange.{volume, firstRequest, laterRequest, requestOutcome, resultOutcome, policiesOutcome, policyOutcome, eachPolicy, answerOutcome, windowOutcome, eachWindow, exchangeOutcome}
 use Rattle.rules.specs.Command.{walkOf, listsOutcome, commandOutcome, commandVerdict}
 use Rattle.rules.specs.Book.{digits, isCut, linesFrom, isBook, listing}
 
--- H: a header of 20 octets, with this version, length, command flags and application
+-- a header with this version, length field, command flags and application; the identifiers are 1 and 2
 unfoldable pub header : ℕ → ℕ → ℕ → ℕ → List ℕ
 header version length flags application =
-    version ∷ 0 ∷ 0 ∷ length ∷ flags ∷ 0x80 ∷ 0x00 ∷ 0x73 ∷ 0x01 ∷ 0x00 ∷ 0x00 ∷ application ∷
-    0 ∷ 0 ∷ 0 ∷ 1 ∷ 0 ∷ 0 ∷ 0 ∷ 2 ∷ []
+    version ∷ octets 3 length ++ (flags ∷ octets 3 codeBackgroundDataTransfer) ++ octets 4 application ++ octets 4 1 ++ octets 4 2
 
+-- H, and H's header for a request and for an answer of another length
 unfoldable pub h : List ℕ
-h = header 1 20 0xC0 0x84
+h = header 1 20 0xC0 applicationNt
 
--- an AVP header without vendor, code below 65,536
-unfoldable pub avp : ℕ → ℕ → ℕ → ℕ → List ℕ
-avp high low flags length = 0 ∷ 0 ∷ high ∷ low ∷ flags ∷ 0 ∷ 0 ∷ length ∷ []
+abbrev pub request : ℕ → List ℕ
+request length = header 1 length 0xC0 applicationNt
 
--- S: the AVPs after the header, without the last, 4208, which stands at 144
+abbrev pub answer : ℕ → List ℕ
+answer length = header 1 length 0x40 applicationNt
+
+-- an AVP without vendor: its code, flags and length field, and the octets behind its header, padding included
+unfoldable pub avp : ℕ → ℕ → ℕ → List ℕ → List ℕ
+avp code flags length behind = octets 4 code ++ (flags ∷ octets 3 length) ++ behind
+
+-- an AVP of 3GPP, likewise
+unfoldable pub avpOf3GPP : ℕ → ℕ → ℕ → List ℕ → List ℕ
+avpOf3GPP code flags length behind = octets 4 code ++ (flags ∷ octets 3 length) ++ octets 4 vendor3GPP ++ behind
+
+-- a string of one octet, with its padding
+abbrev pub text : ℕ → List ℕ
+text octet = octet ∷ 0 ∷ 0 ∷ 0 ∷ []
+
+-- the AVPs with which S begins: 263, 260 with what it holds, 277, 264, 296, 283
+unfoldable pub sBegins : List ℕ → ℕ → List ℕ
+sBegins members length =
+    avp 263 0x40 9 (text 0x73)
+    ++ avp 260 0x40 length members
+    ++ avp 277 0x40 12 (octets 4 1)
+    ++ avp 264 0x40 9 (text 0x68)
+    ++ avp 296 0x40 9 (text 0x72)
+    ++ avp 283 0x40 9 (text 0x64)
+
+-- 260's one required member
+unfoldable pub vendorId : List ℕ
+vendorId = avp 266 0x40 12 (octets 4 vendor3GPP)
+
+-- with which S goes on: 4203 of this value, 293, 4202
+unfoldable pub sGoesOn : ℕ → List ℕ
+sGoesOn type =
+    avpOf3GPP 4203 0xC0 16 (octets 4 type) ++ avp 293 0x40 9 (text 0x65) ++ avpOf3GPP 4202 0xC0 13 (text 0x66)
+
+-- and ends: 4208, at 144
+unfoldable pub sEnds : List ℕ
+sEnds = avpOf3GPP 4208 0xC0 16 (octets 4 7)
+
+-- the AVPs of S without 4208, and S
 unfoldable pub sFront : List ℕ
-sFront =
-    0 ∷ 0 ∷ 0x01 ∷ 0x07 ∷ 0x40 ∷ 0 ∷ 0 ∷ 9 ∷ 0x73 ∷ 0 ∷ 0 ∷ 0 ∷
-    0 ∷ 0 ∷ 0x01 ∷ 0x04 ∷ 0x40 ∷ 0 ∷ 0 ∷ 20 ∷
-    0 ∷ 0 ∷ 0x01 ∷ 0x0A ∷ 0x40 ∷ 0 ∷ 0 ∷ 12 ∷ 0 ∷ 0 ∷ 0x28 ∷ 0xAF ∷
-    0 ∷ 0 ∷ 0x01 ∷ 0x15 ∷ 0x40 ∷ 0 ∷ 0 ∷ 12 ∷ 0 ∷ 0 ∷ 0 ∷ 1 ∷
-    0 ∷ 0 ∷ 0x01 ∷ 0x08 ∷ 0x40 ∷ 0 ∷ 0 ∷ 9 ∷ 0x68 ∷ 0 ∷ 0 ∷ 0 ∷
-    0 ∷ 0 ∷ 0x01 ∷ 0x28 ∷ 0x40 ∷ 0 ∷ 0 ∷ 9 ∷ 0x72 ∷ 0 ∷ 0 ∷ 0 ∷
-    0 ∷ 0 ∷ 0x01 ∷ 0x1B ∷ 0x40 ∷ 0 ∷ 0 ∷ 9 ∷ 0x64 ∷ 0 ∷ 0 ∷ 0 ∷
-    0 ∷ 0 ∷ 0x10 ∷ 0x6B ∷ 0xC0 ∷ 0 ∷ 0 ∷ 16 ∷ 0 ∷ 0 ∷ 0x28 ∷ 0xAF ∷ 0 ∷ 0 ∷ 0 ∷ 1 ∷
-    0 ∷ 0 ∷ 0x01 ∷ 0x25 ∷ 0x40 ∷ 0 ∷ 0 ∷ 9 ∷ 0x65 ∷ 0 ∷ 0 ∷ 0 ∷
-    0 ∷ 0 ∷ 0x10 ∷ 0x6A ∷ 0xC0 ∷ 0 ∷ 0 ∷ 13 ∷ 0 ∷ 0 ∷ 0x28 ∷ 0xAF ∷ 0x66 ∷ 0 ∷ 0 ∷ 0 ∷ []
+sFront = sBegins vendorId 20 ++ sGoesOn 1
 
-unfoldable pub sLast : List ℕ
-sLast = 0 ∷ 0 ∷ 0x10 ∷ 0x70 ∷ 0xC0 ∷ 0 ∷ 0 ∷ 16 ∷ 0 ∷ 0 ∷ 0x28 ∷ 0xAF ∷ 0 ∷ 0 ∷ 0 ∷ 7 ∷ []
+unfoldable pub s : List ℕ
+s = request 160 ++ sFront ++ sEnds
 
+-- octets and the answer that they have
 pub record Case : Type 0 where
   pub octets : List ℕ
   pub answer : Verdict
 
+-- octets, then number, place, vendor and code
 unfoldable pub case : List ℕ → ℕ → ℕ → ℕ → ℕ → Case
 case octets number place vendor code = record { octets = octets; answer = verdict number place vendor code }
 
 -- the cases that 01 marks (p), in its order
 unfoldable pub cases : List Case
 cases =
-    case [] 5015 0 0 0 ∷
-    case h 5005 20 0 263 ∷
-    case (header 2 20 0xC0 0x84) 5011 0 0 0 ∷
-    case (header 1 24 0xC0 0x84) 5015 1 0 0 ∷
-    case (header 1 20 0xC0 0x82) 3007 8 0 0 ∷
-    case (header 1 20 0xE0 0x84) 3008 4 0 0 ∷
-    case (header 1 20 0x60 0x84) 7005 4 0 0 ∷
-    case (header 1 28 0xC0 0x84 ++ avp 0x01 0x07 0x40 7) 5014 20 0 263 ∷
-    case (header 1 28 0xC0 0x84 ++ avp 0x01 0x07 0x41 8) 3009 20 0 263 ∷
-    case (header 1 28 0xC0 0x84 ++ avp 0x27 0x0F 0x40 8) 5001 20 0 9999 ∷
-    case (header 1 28 0xC0 0x84 ++ avp 0x27 0x0F 0x00 8) 5005 28 0 263 ∷
-    case (header 1 160 0xC0 0x84 ++ (sFront ++ sLast)) 0 0 0 0 ∷
-    case (header 1 144 0xC0 0x84 ++ sFront) 5005 144 10415 4208 ∷ []
+    case [] 5015 0 0 0
+    ∷ case h 5005 20 0 263
+    ∷ case (header 2 20 0xC0 applicationNt) 5011 0 0 0
+    ∷ case (header 1 24 0xC0 applicationNt) 5015 1 0 0
+    ∷ case (header 1 20 0xC0 16777346) 3007 8 0 0
+    ∷ case (header 1 20 0xE0 applicationNt) 3008 4 0 0
+    ∷ case (header 1 20 0x60 applicationNt) 7005 4 0 0
+    ∷ case (request 28 ++ avp 263 0x40 7 []) 5014 20 0 263
+    ∷ case (request 28 ++ avp 263 0x41 8 []) 3009 20 0 263
+    ∷ case (request 28 ++ avp 9999 0x40 8 []) 5001 20 0 9999
+    ∷ case (request 28 ++ avp 9999 0x00 8 []) 5005 28 0 263
+    ∷ case s 0 0 0 0
+    ∷ case (request 144 ++ sFront) 5005 144 vendor3GPP 4208
+    ∷ []
 
+-- a first request, 4203 = 0: 532, 414, 4209, and a window from 10 to this time
+unfoldable pub firstRequestTo : ℕ → List ℕ
+firstRequestTo end =
+    request 208
+    ++ sBegins vendorId 20
+    ++ avpOf3GPP 4203 0xC0 16 (octets 4 0)
+    ++ avpOf3GPP 532 0x80 13 (text 0x61)
+    ++ avp 414 0x40 16 (octets 8 1000)
+    ++ avpOf3GPP 4209 0xC0 16 (octets 4 3)
+    ++ avpOf3GPP 4204 0xC0 44 (avpOf3GPP 4206 0xC0 16 (octets 4 10) ++ avpOf3GPP 4205 0xC0 16 (octets 4 end))
+
+-- the AVPs of an answer before its result
+unfoldable pub answerBegins : List ℕ
+answerBegins =
+    avp 263 0x40 9 (text 0x73)
+    ++ avp 260 0x40 20 vendorId
+    ++ avp 277 0x40 12 (octets 4 1)
+    ++ avp 264 0x40 9 (text 0x68)
+    ++ avp 296 0x40 9 (text 0x72)
+
+-- further cases: 01's S with 4203 = 2 and its windows; an accepted first request and an accepted answer; an answer without
+-- a result and one with both; rows missing, not admitted and exceeded, in the command's own list and in a group
+unfoldable pub further : List Case
+further =
+    case (request 160 ++ sBegins vendorId 20 ++ sGoesOn 2 ++ sEnds) 5004 100 vendor3GPP 4203
+    ∷ case (firstRequestTo 11) 0 0 0 0
+    ∷ case (firstRequestTo 10) 5004 192 vendor3GPP 4205
+    ∷ case (answer 100 ++ answerBegins ++ avp 268 0x40 12 (octets 4 2001)) 0 0 0 0
+    ∷ case (answer 88 ++ answerBegins) 5005 88 0 268
+    ∷ case (answer 132 ++ answerBegins ++ avp 268 0x40 12 (octets 4 2001)
+    ++ avp 297 0x40 32 (vendorId ++ avp 298 0x40 12 (octets 4 1))) 5008 100 0 297
+    ∷ case (request 148 ++ sBegins [] 8 ++ sGoesOn 1 ++ sEnds) 5005 40 0 266
+    ∷ case (request 172 ++ sBegins (vendorId ++ avp 263 0x40 9 (text 0x73)) 32 ++ sGoesOn 1 ++ sEnds) 5008 52 0 263
+    ∷ case (request 172 ++ sBegins (vendorId ++ vendorId) 32 ++ sGoesOn 1 ++ sEnds) 5009 52 0 266
+    ∷ case (request 44 ++ avp 264 0x40 9 (text 0x68) ++ avp 263 0x40 9 (text 0x73)) 5008 32 0 263
+    ∷ case (request 172 ++ sFront ++ sEnds ++ avp 264 0x40 9 (text 0x68)) 5009 160 0 264
+    ∷ []
+
+-- the answers that cases have, and those that the definitions give
 unfoldable pub answers : List Case → List Verdict
 answers cs = map (λ c. c .answer) cs
 
 unfoldable pub verdicts : List Case → List Verdict
 verdicts cs = map (λ c. commandVerdict (c .octets)) cs
 
--- each marked case has its answer
-pub edges : verdicts cases ≡ answers cases
-unfolding verdicts answers cases case header h avp sFront sLast numberAt padded lengthOutcome applicationOutcome flagsOutcome headerOutcome avpAt rowsOf admitsOthers dictionary find framedBy framing wrongFlags unsupported wrongWidth wrongValue tooDeep contents checked walkAvp walkList admissionFrom memberOutcome missingFrom membersOutcome membersAt groupsOutcome rowsOutcome firstFrom volume firstRequest laterRequest requestOutcome resultOutcome policiesOutcome policyOutcome eachPolicy answerOutcome windowOutcome eachWindow exchangeOutcome walkOf listsOutcome commandOutcome commandVerdict
-edges = refl
-
--- the book that 01 works out, and its listing: "NTB 1", "1 5 5005 20 0 263", "end 1 0"
+-- the book that 01 works out
 unfoldable pub book : List ℕ
 book = 0x4E ∷ 0x54 ∷ 0x42 ∷ 0x00 ∷ 0x01 ∷ h
 
+-- its listing: "NTB 1", "1 5 5005 20 0 263", "end 1 0"
 unfoldable pub bookListing : List ℕ
 bookListing =
     78 ∷ 84 ∷ 66 ∷ 32 ∷ 49 ∷ 10 ∷
     49 ∷ 32 ∷ 53 ∷ 32 ∷ 53 ∷ 48 ∷ 48 ∷ 53 ∷ 32 ∷ 50 ∷ 48 ∷ 32 ∷ 48 ∷ 32 ∷ 50 ∷ 54 ∷ 51 ∷ 10 ∷
     101 ∷ 110 ∷ 100 ∷ 32 ∷ 49 ∷ 32 ∷ 48 ∷ 10 ∷ []
 
+-- all of it, computed
+computed : (verdicts cases ≡ answers cases) × (verdicts further ≡ answers further) × (listing book ≡ bookListing)
+unfolding verdicts answers cases case header h avp avpOf3GPP sBegins vendorId sGoesOn sEnds sFront s further firstRequestTo answerBegins book bookListing octets numberAt padded lengthOutcome applicationOutcome flagsOutcome headerOutcome avpAt rowsOf admitsOthers dictionary find framing wrongFlags unsupported wrongWidth wrongValue tooDeep contents checked walkAvp walkList admissionFrom memberOutcome missingFrom membersOutcome membersAt groupsOutcome rowsOutcome firstFrom volume firstRequest laterRequest requestOutcome resultOutcome policiesOutcome policyOutcome eachPolicy answerOutcome windowOutcome eachWindow exchangeOutcome walkOf listsOutcome commandOutcome commandVerdict digits isCut linesFrom isBook listing
+computed = (refl, refl, refl)
+
+-- each marked case has its answer
+pub edges : verdicts cases ≡ answers cases
+edges = computed .0
+
+-- and so has each further case
+pub further-edges : verdicts further ≡ answers further
+further-edges = computed .1
+
+-- and the book its listing
 pub worked-book : listing book ≡ bookListing
-unfolding book bookListing header h numberAt padded lengthOutcome applicationOutcome flagsOutcome headerOutcome avpAt rowsOf admitsOthers dictionary find framedBy framing wrongFlags unsupported wrongWidth wrongValue tooDeep contents checked walkAvp walkList admissionFrom memberOutcome missingFrom membersOutcome membersAt groupsOutcome rowsOutcome firstFrom volume firstRequest laterRequest requestOutcome resultOutcome policiesOutcome policyOutcome eachPolicy answerOutcome windowOutcome eachWindow exchangeOutcome walkOf listsOutcome commandOutcome commandVerdict digits isCut linesFrom isBook listing
-worked-book = refl
+worked-book = computed .2

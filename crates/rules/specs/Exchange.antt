@@ -1,5 +1,6 @@
 -- 01, Exchange rules (clause 4.4.1), over the AVPs of the walk: those of a request, those of an answer, and the windows.
--- `end` is the end of the command's own list.
+-- `end` is the end of the command's own list. The definitions answer for every list of AVPs; where walk or rows have
+-- refused a command before, the comment says so.
 use Prim.Native.Nat.{ℕ, _+_}
 use mathlib.Core.List.{List, [], _∷_}
 use mathlib.Core.Bool.{Bool, cond}
@@ -12,48 +13,58 @@ use Rattle.rules.specs.declared.Found.{Found}
 use Rattle.rules.specs.declared.Found.the-variants.{At, Nothing}
 use Rattle.rules.specs.Octets.{numberAt}
 use Rattle.rules.specs.Verdict.{refused, orElse}
+use Rattle.rules.specs.Header.{vendor3GPP}
 use Rattle.rules.specs.Avp.{named, endOf}
 use Rattle.rules.specs.RowChecks.{memberFault}
 use Rattle.rules.specs.Search.{avpIn, isAt, firstFrom, search, member}
 
--- none is 5005 at the end of the list that lacks it
+-- a search that found nothing is 5005 at the end of the list that lacks the AVP
 abbrev pub present : ℕ → ℕ → ℕ → Found → Outcome
 present end vendor code (At i) = Pass
 present end vendor code Nothing = refused 5005 end vendor code
 
+-- the command's own list has an AVP
 abbrev pub require : List Avp → ℕ → ℕ → ℕ → Outcome
 require xs end vendor code = present end vendor code (search xs vendor code)
 
--- one of 414, 412, 421, reported as 414
+-- whether a search found an AVP
 abbrev pub isFound : Found → Bool
 isFound (At i) = Bool.true
 isFound Nothing = Bool.false
 
+-- one of 414, 412, 421, reported as 414
 unfoldable pub volume : List Avp → ℕ → Outcome
 volume xs end =
     cond (isFound (search xs 0 412)) Pass (cond (isFound (search xs 0 421)) Pass (require xs end 0 414))
 
--- BTR with 4203 = 0
+-- BTR with 4203 = 0: 532; a volume; 4209; 4204
 unfoldable pub firstRequest : List Avp → ℕ → Outcome
 firstRequest xs end =
-    orElse (require xs end 10415 532) (orElse (volume xs end) (orElse (require xs end 10415 4209) (require xs end 10415 4204)))
+    orElse (require xs end vendor3GPP 532)
+    (orElse (volume xs end)
+    (orElse (require xs end vendor3GPP 4209)
+    (require xs end vendor3GPP 4204)))
 
--- BTR with 4203 = 1
+-- BTR with 4203 = 1: 4202, 4208, 293
 unfoldable pub laterRequest : List Avp → ℕ → Outcome
-laterRequest xs end = orElse (require xs end 10415 4202) (orElse (require xs end 10415 4208) (require xs end 0 293))
+laterRequest xs end =
+    orElse (require xs end vendor3GPP 4202)
+    (orElse (require xs end vendor3GPP 4208)
+    (require xs end 0 293))
 
--- the rules of a request, by its Transfer-Request-Type
+-- the rules of a request by the value of its 4203; check 6 of the walk has refused any but 0 and 1
 abbrev pub byRequestType : List Avp → ℕ → ℕ → Outcome
 byRequestType xs end type = cond (eqb type 0) (firstRequest xs end) (cond (eqb type 1) (laterRequest xs end) Pass)
 
+-- by its 4203; the rows have refused a request without one
 abbrev pub requestBy : List Avp → List ℕ → ℕ → Found → Outcome
 requestBy xs s end (At i) = byRequestType xs end (numberAt 4 s (avpIn xs i .start))
-requestBy xs s end Nothing = refused 5005 end 10415 4203
+requestBy xs s end Nothing = refused 5005 end vendor3GPP 4203
 
 unfoldable pub requestOutcome : List Avp → List ℕ → ℕ → Outcome
-requestOutcome xs s end = requestBy xs s end (search xs 10415 4203)
+requestOutcome xs s end = requestBy xs s end (search xs vendor3GPP 4203)
 
--- BTA: neither 268 nor 297 is 5005 for 268; both are 5008 at 297
+-- BTA, by its 268 and its 297: neither is 5005 for 268, both are 5008 at 297
 abbrev pub resultBy : List Avp → ℕ → Found → Found → Outcome
 resultBy xs end (At i) (At j) = memberFault 5008 (avpIn xs j)
 resultBy xs end (At i) Nothing = Pass
@@ -63,32 +74,32 @@ resultBy xs end Nothing Nothing = refused 5005 end 0 268
 unfoldable pub resultOutcome : List Avp → ℕ → Outcome
 resultOutcome xs end = resultBy xs end (search xs 0 268) (search xs 0 297)
 
--- with two or more 4207: 2207. The second is the first at depth 1 after the first
+-- a rule that holds only where a search found an AVP
 abbrev pub ifFound : Found → Outcome → Outcome
 ifFound (At i) o = o
 ifFound Nothing o = Pass
 
--- with any 4207: 4202
+-- with any 4207, the first of which stands at position i: 4202. With two or more, where a second follows: 2207
 abbrev pub policiesBy : List Avp → ℕ → Found → Outcome
 policiesBy xs end (At i) =
-    orElse (require xs end 10415 4202)
-    (ifFound (firstFrom (i + 1) 0 1 (drop (i + 1) xs) 10415 4207) (require xs end 10415 2207))
+    orElse (require xs end vendor3GPP 4202)
+    (ifFound (firstFrom (i + 1) 0 1 (drop (i + 1) xs) vendor3GPP 4207) (require xs end vendor3GPP 2207))
 policiesBy xs end Nothing = Pass
 
 unfoldable pub policiesOutcome : List Avp → ℕ → Outcome
-policiesOutcome xs end = policiesBy xs end (search xs 10415 4207)
+policiesOutcome xs end = policiesBy xs end (search xs vendor3GPP 4207)
 
 -- the 4207 at position i holds an AVP, else 5005 at its own end
 abbrev pub heldBy : List Avp → ℕ → ℕ → ℕ → Outcome
 heldBy xs i vendor code = present (endOf (avpIn xs i)) vendor code (member xs i 2 vendor code)
 
--- it holds 4204, then 432
+-- each 4207 holds 4204, then 432
 unfoldable pub policyOutcome : List Avp → ℕ → Outcome
-policyOutcome xs i = orElse (heldBy xs i 10415 4204) (heldBy xs i 0 432)
+policyOutcome xs i = orElse (heldBy xs i vendor3GPP 4204) (heldBy xs i 0 432)
 
 -- what is said of the AVP a at position i: of a 4207 of the command's own list its outcome
 abbrev pub policyAt : List Avp → ℕ → Avp → Outcome
-policyAt xs i a = cond (isAt a 1 10415 4207) (policyOutcome xs i) Pass
+policyAt xs i a = cond (isAt a 1 vendor3GPP 4207) (policyOutcome xs i) Pass
 
 -- each 4207 of the command's own list in order, from position i on
 unfoldable pub eachPolicy : List Avp → ℕ → List Avp → Outcome
@@ -96,6 +107,7 @@ eachPolicy xs i [] = Pass
 eachPolicy xs i (a ∷ rest) =
     orElse (policyAt xs i a) (eachPolicy xs (i + 1) rest)
 
+-- BTA: its result, what its policies ask of the command, then each policy
 unfoldable pub answerOutcome : List Avp → ℕ → Outcome
 answerOutcome xs end = orElse (resultOutcome xs end) (orElse (policiesOutcome xs end) (eachPolicy xs 0 xs))
 
@@ -108,20 +120,21 @@ abbrev pub timesBy : List Avp → List ℕ → ℕ → ℕ → Outcome
 timesBy xs s i j =
     cond (isBefore (numberAt 4 s (avpIn xs i .start)) (numberAt 4 s (avpIn xs j .start))) Pass (memberFault 5004 (avpIn xs j))
 
+-- a window by its 4206 and its 4205; the rows have refused a 4204 without one of them
 abbrev pub windowBy : List Avp → List ℕ → ℕ → Found → Found → Outcome
 windowBy xs s end (At i) (At j) = timesBy xs s i j
-windowBy xs s end (At i) Nothing = refused 5005 end 10415 4205
-windowBy xs s end Nothing (At j) = refused 5005 end 10415 4206
-windowBy xs s end Nothing Nothing = refused 5005 end 10415 4206
+windowBy xs s end (At i) Nothing = refused 5005 end vendor3GPP 4205
+windowBy xs s end Nothing (At j) = refused 5005 end vendor3GPP 4206
+windowBy xs s end Nothing Nothing = refused 5005 end vendor3GPP 4206
 
 -- the 4204 at position i, whose members stand at this depth
 unfoldable pub windowOutcome : List Avp → List ℕ → ℕ → ℕ → Outcome
 windowOutcome xs s i depth =
-    windowBy xs s (endOf (avpIn xs i)) (member xs i depth 10415 4206) (member xs i depth 10415 4205)
+    windowBy xs s (endOf (avpIn xs i)) (member xs i depth vendor3GPP 4206) (member xs i depth vendor3GPP 4205)
 
 -- what is said of the AVP a at position i: of a 4204, at any depth, its outcome
 abbrev pub windowAt : List Avp → List ℕ → ℕ → Avp → Outcome
-windowAt xs s i a = cond (named a 10415 4204) (windowOutcome xs s i (a .depth + 1)) Pass
+windowAt xs s i a = cond (named a vendor3GPP 4204) (windowOutcome xs s i (a .depth + 1)) Pass
 
 -- each 4204 of the walk, from position i on
 unfoldable pub eachWindow : List Avp → List ℕ → ℕ → List Avp → Outcome
@@ -133,7 +146,7 @@ eachWindow xs s i (a ∷ rest) =
 abbrev pub byCommand : Bool → List Avp → List ℕ → ℕ → Outcome
 byCommand request xs s end = cond request (requestOutcome xs s end) (answerOutcome xs end)
 
--- then the windows
+-- those rules, then the windows
 unfoldable pub exchangeOutcome : Bool → List Avp → List ℕ → ℕ → Outcome
 exchangeOutcome request xs s end =
     orElse (byCommand request xs s end) (eachWindow xs s 0 xs)

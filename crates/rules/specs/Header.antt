@@ -9,6 +9,7 @@ use Rattle.rules.specs.declared.Outcome.the-variants.{Pass}
 use Rattle.rules.specs.Octets.{numberAt, flag}
 use Rattle.rules.specs.Verdict.{refused, refuseIf, orElse}
 
+-- the header's octets
 abbrev pub headerSize : ℕ
 headerSize = 20
 
@@ -47,13 +48,17 @@ isError = flag 32
 abbrev pub isRetransmitted : ℕ → Bool
 isRetransmitted = flag 16
 
--- the Nt application, its command code, and the longest command
-abbrev pub applicationNt : ℕ
-applicationNt = 16777348
-
+-- the command code, the Nt application, and the vendor 3GPP
 abbrev pub codeBackgroundDataTransfer : ℕ
 codeBackgroundDataTransfer = 8388723
 
+abbrev pub applicationNt : ℕ
+applicationNt = 16777348
+
+abbrev pub vendor3GPP : ℕ
+vendor3GPP = 10415
+
+-- the longest command
 abbrev pub longestCommand : ℕ
 longestCommand = 16384
 
@@ -81,5 +86,6 @@ flagsOutcome flags =
     (refuseIf (isError flags) (refused 7005 4 0 0)
     Pass)
 
+-- the header's checks together
 unfoldable pub headerOutcome : List ℕ → Outcome
 headerOutcome s = orElse (lengthOutcome s) (orElse (applicationOutcome s) (flagsOutcome (commandFlags s)))

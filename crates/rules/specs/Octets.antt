@@ -1,7 +1,7 @@
 -- Octets and numbers: what a list of octets stands for, and what stands at a place of it. Definitions only;
 -- their laws are in proofs/Octets.
 use mathlib.Core.Path.{_≡_}
-use Prim.Native.Nat.{ℕ, _+_, _*_, _/_, _%_, _^_, _<_}
+use Prim.Native.Nat.{ℕ, zero, suc, _+_, _*_, _/_, _%_, _^_, _<_}
 use mathlib.Core.List.{List, [], _∷_}
 use mathlib.Core.Bool.{Bool, cond}
 use lib.ListN.{length, take, drop, getD}
@@ -15,6 +15,11 @@ AreOctets s = (i : ℕ) → getD s i 0 < 256
 abbrev pub number : List ℕ → ℕ
 number [] = 0
 number (x ∷ xs) = x * 256 ^ length xs + number xs
+
+-- the w octets of a number, big-endian
+unfoldable pub octets : ℕ → ℕ → List ℕ
+octets zero n = []
+octets (suc w) n = n / 256 ^ w % 256 ∷ octets w n
 
 -- the number in the w octets at a place of s; 0 where they do not all lie in s
 unfoldable pub numberAt : ℕ → List ℕ → ℕ → ℕ

@@ -1,7 +1,7 @@
 -- 01, The record: the record of an accepted command, the empty record, data of a position, and the search.
 use Prim.Native.Nat.{ℕ, _+_, _-_, min}
-use mathlib.Core.List.{List, [], _++_}
-use mathlib.Core.Bool.{Bool, cond}
+use mathlib.Core.List.{List, _++_}
+use mathlib.Core.Bool.{Bool, cond, _&&_}
 use lib.ListN.{length, take, drop, replicate}
 use lib.Dec.{ltb, leb}
 use Rattle.rules.specs.declared.Avp.{Avp}
@@ -11,6 +11,7 @@ use Rattle.rules.specs.declared.Outcome.{Outcome}
 use Rattle.rules.specs.declared.Outcome.the-variants.{Pass, Refused}
 use Rattle.rules.specs.declared.Found.{Found}
 use Rattle.rules.specs.Header.{commandFlags, hopByHop, endToEnd, isRequest, isProxiable, isError, isRetransmitted}
+use Rattle.rules.specs.Avp.{endOf}
 use Rattle.rules.specs.Walk.{mostAvps, avpsOf}
 use Rattle.rules.specs.Search.{blank, avpIn, search}
 use Rattle.rules.specs.Command.{commandOutcome, commandVerdict, walkOf}
@@ -32,7 +33,7 @@ recordOf s xs = record {
   avps = inRoom xs;
 }
 
--- all numbers 0
+-- the empty record: all numbers 0
 unfoldable pub emptyRecord : Record
 emptyRecord = record {
   r = Bool.false;
@@ -45,6 +46,7 @@ emptyRecord = record {
   avps = replicate mostAvps blank;
 }
 
+-- the record that comes back: with a refusal the empty one
 abbrev pub recordBy : List ℕ → Outcome → Record
 recordBy s Pass = recordOf s (avpsOf (walkOf s))
 recordBy s (Refused v) = emptyRecord
@@ -57,13 +59,21 @@ reading s = record { verdict = commandVerdict s; «record» = recordBy s (comman
 abbrev pub recorded : Record → List Avp
 recorded r = take (min (r .count) mostAvps) (r .avps)
 
--- the part of a slice that an AVP's data is, empty where it does not lie in the slice
-abbrev pub partOf : List ℕ → Avp → List ℕ
-partOf s a = cond (leb (a .start + a .length) (length s)) (take (a .length) (drop (a .start) s)) []
+-- whether a position is used and its data lies in a slice of this size
+abbrev pub liesIn : Record → ℕ → ℕ → Bool
+liesIn r i size = ltb i (min (r .count) mostAvps) && leb (endOf (avpIn (r .avps) i)) size
 
--- the data of the AVP at a position, empty where the position is unused
+-- the part of such a slice that the data is: its start and its length; else the empty part at the slice's start
+unfoldable pub dataStart : Record → ℕ → ℕ → ℕ
+dataStart r i size = cond (liesIn r i size) (avpIn (r .avps) i .start) 0
+
+unfoldable pub dataLength : Record → ℕ → ℕ → ℕ
+dataLength r i size = cond (liesIn r i size) (avpIn (r .avps) i .length) 0
+
+-- the octets of that part
 unfoldable pub dataAt : Record → ℕ → List ℕ → List ℕ
-dataAt r i s = cond (ltb i (min (r .count) mostAvps)) (partOf s (avpIn (r .avps) i)) []
+dataAt r i s = take (dataLength r i (length s)) (drop (dataStart r i (length s)) s)
 
+-- the first AVP at depth 1 with a vendor and code, among those of the record
 unfoldable pub searchRecord : Record → ℕ → ℕ → Found
 searchRecord r vendor code = search (recorded r) vendor code

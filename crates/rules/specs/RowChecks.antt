@@ -26,6 +26,7 @@ admissionFrom i [] vendor code = NoRow
 admissionFrom i (r ∷ rs) vendor code =
     cond (eqb vendor (r .vendor) && eqb code (r .code)) (ByRow i (r .mark)) (admissionFrom (i + 1) rs vendor code)
 
+-- the row of a list that names an AVP
 abbrev pub admission : Grammar → ℕ → ℕ → Admission
 admission g vendor code = admissionFrom 0 (rowsOf g) vendor code
 
@@ -33,13 +34,16 @@ admission g vendor code = admissionFrom 0 (rowsOf g) vendor code
 abbrev pub noneMet : List ℕ
 noneMet = replicate 24 0
 
+-- the counts with one more member of a row
 abbrev pub countedAt : List ℕ → ℕ → List ℕ
 countedAt counts row = set counts row (getD counts row 0 + 1)
 
+-- the counts with one more member, by the row that admits it
 abbrev pub counted : List ℕ → Admission → List ℕ
 counted counts (ByRow row mark) = countedAt counts row
 counted counts NoRow = counts
 
+-- a refusal at an AVP that is there: its first octet, vendor and code
 abbrev pub memberFault : ℕ → Avp → Outcome
 memberFault number a = refused number (placeOf a) (a .vendor) (a .code)
 
@@ -55,26 +59,29 @@ abbrev pub byAdmission : Bool → List ℕ → Bool → Avp → Admission → Ou
 byAdmission others counts first a (ByRow row mark) = byMark mark (ltb 0 (getD counts row 0)) first a
 byAdmission others counts first a NoRow = cond others Pass (memberFault 5008 a)
 
+-- one member, by the row that names it
 unfoldable pub memberOutcome : Grammar → List ℕ → Bool → Avp → Outcome
 memberOutcome g counts first a = byAdmission (admitsOthers g) counts first a (admission g (a .vendor) (a .code))
 
--- the first missing row, in the printed order, at the end of the list
+-- a row that must be met
 abbrev pub isRequired : Mark → Bool
 isRequired First = true
 isRequired Once = true
 isRequired AtMostOnce = false
 isRequired AnyNumber = false
 
+-- the first missing row, in the printed order, counted from i, is 5005 at the end of the list
 unfoldable pub missingFrom : ℕ → List Row → List ℕ → ℕ → Outcome
 missingFrom i [] counts end = Pass
 missingFrom i (r ∷ rs) counts end =
     refuseIf (isRequired (r .mark) && eqb (getD counts i 0) 0) (refused 5005 end (r .vendor) (r .code))
     (missingFrom (i + 1) rs counts end)
 
+-- of a list's own rows
 abbrev pub missing : Grammar → List ℕ → ℕ → Outcome
 missing g counts end = missingFrom 0 (rowsOf g) counts end
 
--- the members of a list in order, then the first missing row
+-- the members of a list in order, with the counts so far, then the first missing row
 unfoldable pub membersOutcome : Grammar → ℕ → List ℕ → Bool → List Avp → Outcome
 membersOutcome g end counts first [] = missing g counts end
 membersOutcome g end counts first (a ∷ xs) =
@@ -87,6 +94,7 @@ membersAt depth [] = []
 membersAt depth (a ∷ xs) =
     cond (ltb (a .depth) depth) [] (cond (eqb (a .depth) depth) (a ∷ membersAt depth xs) (membersAt depth xs))
 
+-- the list at a depth whose members are among these AVPs
 abbrev pub listOutcome : Grammar → ℕ → ℕ → List Avp → Outcome
 listOutcome g depth end xs = membersOutcome g end noneMet true (membersAt depth xs)
 
@@ -95,6 +103,7 @@ abbrev pub groupOutcome : Members → Avp → List Avp → Outcome
 groupOutcome (Under g) a xs = listOutcome g (a .depth + 1) (endOf a) xs
 groupOutcome NoMembers a xs = Pass
 
+-- each group in walk order
 unfoldable pub groupsOutcome : List Entry → List Avp → Outcome
 groupsOutcome dict [] = Pass
 groupsOutcome dict (a ∷ xs) = orElse (groupOutcome (membersOf (defined dict a)) a xs) (groupsOutcome dict xs)

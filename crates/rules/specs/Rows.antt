@@ -6,19 +6,23 @@ use Rattle.rules.specs.declared.Mark.{Mark}
 use Rattle.rules.specs.declared.Mark.the-variants.{First, Once, AtMostOnce, AnyNumber}
 use Rattle.rules.specs.declared.Grammar.{Grammar}
 use Rattle.rules.specs.declared.Grammar.the-variants.{Request, Answer, VendorSpecificApplicationId, ExperimentalResult, ProxyInfo, SupportedFeatures, TimeWindow, TransferPolicy}
+use Rattle.rules.specs.Header.{vendor3GPP}
 
+-- a row: the name, and its mark
 pub record Row : Type 0 where
   pub vendor : ℕ
   pub code : ℕ
   pub mark : Mark
 
--- a row for an AVP without vendor, and one for an AVP of 3GPP
+-- a row for an AVP without vendor
 abbrev pub plain : ℕ → Mark → Row
 plain code mark = record { vendor = 0; code = code; mark = mark }
 
+-- a row for an AVP of 3GPP
 abbrev pub of3GPP : ℕ → Mark → Row
-of3GPP code mark = record { vendor = 10415; code = code; mark = mark }
+of3GPP code mark = record { vendor = vendor3GPP; code = code; mark = mark }
 
+-- the rows of each list
 unfoldable pub rowsOf : Grammar → List Row
 rowsOf Request =
     plain 263 First ∷ plain 301 AtMostOnce ∷ plain 260 Once ∷ plain 277 Once ∷ plain 264 Once ∷ plain 296 Once ∷ plain 283 Once ∷

@@ -9,7 +9,7 @@ use Rattle.rules.specs.declared.Found.{Found}
 use Rattle.rules.specs.declared.Found.the-variants.{At, Nothing}
 use Rattle.rules.specs.Avp.{named}
 
--- all numbers 0
+-- an unused place: all numbers 0
 abbrev pub blank : Avp
 blank = record { depth = 0; vendor = 0; code = 0; m = Bool.false; p = Bool.false; start = 0; length = 0 }
 

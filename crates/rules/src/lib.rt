@@ -1,6 +1,7 @@
 // The terms of document 01 as types: what a command is read into, and what comes back. No function stands here; the
 // rules are in specs/, in the order of document 01, and the laws that the proofs above cite in proofs/.
 
+pub mod flags;
 pub mod kinds;
 pub mod limits;
 

@@ -10,6 +10,11 @@ pub const LONGEST_COMMAND: usize = 16384;
 
 pub const MOST_AVPS: usize = 256;
 
+// The octets of an AVP's header, without Vendor-Id and with it.
+pub const AVP_HEADER_SIZE: usize = 8;
+
+pub const AVP_HEADER_SIZE_WITH_VENDOR: usize = 12;
+
 // The numbers that the log keeps of an AVP, and those of a whole log.
 pub const AVP_NUMBERS: usize = 7;
 

@@ -10,11 +10,11 @@ use Rattle.rules.specs.declared.Avp.{Avp}
 use Rattle.rules.specs.declared.Outcome.{Outcome}
 use Rattle.rules.specs.declared.Outcome.the-variants.{Pass, Refused}
 use Rattle.rules.specs.Octets.{padded}
-use Rattle.rules.specs.Verdict.{verdict}
+use Rattle.rules.specs.Verdict.{verdict, verdictOf}
 use Rattle.rules.specs.Header.{longestCommand}
-use Rattle.rules.specs.Avp.{flagsAt, flagV, flagM, flagP, lengthAt, headerOf, nextAt}
+use Rattle.rules.specs.Avp.{flagM, flagP, nextAt}
 use Rattle.rules.specs.Dictionary.{dictionary}
-use Rattle.rules.specs.Walk.{Walked, whole, stopped, avpsOf, walkAvp, walkList}
+use Rattle.rules.specs.Walk.{Standing, mostAvps, deepest, Walked, whole, stopped, avpsOf, stopOf, walkAvp, walkList}
 use Rattle.rules.specs.Command.{walkOf}
 use Rattle.log.specs.Log.{avpsIn, written}
 use Rattle.walk.specs.declared.frame.Frame.{Frame}
@@ -23,6 +23,7 @@ use Rattle.walk.specs.declared.Walk.{Walk}
 use Rattle.walk.specs.declared.Walk.the-variants.{Whole, Stopped}
 use Rattle.walk.specs.declared.Step.{Step}
 use Rattle.walk.specs.declared.Step.the-variants.{On, Halted}
+use Rattle.walk.specs.Answer.{verdictOfWalk, countOfWalk, countOf}
 
 -- a place of a list that lies in a command of admitted length
 pub record InList (s : List ℕ) (at end : ℕ) : Type 0 where
@@ -51,11 +52,11 @@ avpBy at depth header vendor code flags size = record {
   length = size - header;
 }
 
--- where a walk stands: in a list at a depth, with this many AVPs before
-pub record Ready (s : List ℕ) (at end depth count : ℕ) : Type 0 where
-  pub place : InList s at end
-  pub level : depth ≤ 4
-  pub few : count ≤ 256
+-- a walk stands in a command: in a list that lies there, at a depth that a list has, with no more AVPs than there is room for
+pub record StandsIn (s : List ℕ) (w : Standing) : Type 0 where
+  pub place : InList s (w .at) (w .end)
+  pub level : w .depth ≤ deepest
+  pub few : w .count ≤ mostAvps
 
 -- what a walk hands back
 abbrev pub answerOf : ℕ → Walked → Walk
@@ -72,24 +73,28 @@ stepTo next (Whole count) = On count next
 stepTo next (Stopped v) = Halted v
 
 -- the AVP walk: the answer, the log, and where the next AVP stands
-pub record AvpWalked (s : List ℕ) (at end depth count : ℕ) (before : List ℕ) (r : Step) (after : List ℕ) : Type 0 where
-  pub answer : (n : ℕ) → end - at ≤ suc n
-      → r ≡ stepTo (nextAt s at) (answerOf count (walkAvp (walkList n dictionary s) dictionary s at end depth count))
-  pub logged : (n : ℕ) → end - at ≤ suc n → after ≡ written before count (avpsOf (walkAvp (walkList n dictionary s) dictionary s at end depth count))
-  pub within : (c next : ℕ) → r ≡ On c next → (at < next) × (next ≤ end) × (c ≤ 256)
+pub record AvpWalked (s : List ℕ) (w : Standing) (before : List ℕ) (r : Step) (after : List ℕ) : Type 0 where
+  pub answer : (n : ℕ) → w .end - w .at ≤ suc n
+      → r ≡ stepTo (nextAt s (w .at)) (answerOf (w .count) (walkAvp (walkList n dictionary s) dictionary s w))
+  pub logged : (n : ℕ) → w .end - w .at ≤ suc n
+      → after ≡ written before (w .count) (avpsOf (walkAvp (walkList n dictionary s) dictionary s w))
+  pub within : (c next : ℕ) → r ≡ On c next → (w .at < next) × (next ≤ w .end) × (c ≤ mostAvps)
 
 -- the list walk
-pub record ListWalked (s : List ℕ) (at end depth count : ℕ) (before : List ℕ) (r : Walk) (after : List ℕ) : Type 0 where
-  pub answer : (n : ℕ) → end - at ≤ n → r ≡ answerOf count (walkList n dictionary s at end depth count)
-  pub logged : (n : ℕ) → end - at ≤ n → after ≡ written before count (avpsOf (walkList n dictionary s at end depth count))
-  pub within : (c : ℕ) → r ≡ Whole c → c ≤ 256
+pub record ListWalked (s : List ℕ) (w : Standing) (before : List ℕ) (r : Walk) (after : List ℕ) : Type 0 where
+  pub answer : (n : ℕ) → w .end - w .at ≤ n → r ≡ answerOf (w .count) (walkList n dictionary s w)
+  pub logged : (n : ℕ) → w .end - w .at ≤ n → after ≡ written before (w .count) (avpsOf (walkList n dictionary s w))
+  pub within : (c : ℕ) → r ≡ Whole c → c ≤ mostAvps
 
 -- the walk of a command; one longer than 16,384 octets is 7001 at 1, as by its header
 unfoldable pub commandWalk : List ℕ → Walked
 commandWalk s = cond (ltb longestCommand (length s)) (stopped [] (verdict 7001 1 0 0)) (walkOf s)
 
+-- the answer by 01's number and values, and by its cases for the callers; the log, and what is read back from it
 pub record CommandWalked (s before : List ℕ) (r : Walk) (after : List ℕ) : Type 0 where
+  pub told : verdictOfWalk r ≡ verdictOf (stopOf (commandWalk s))
+  pub counted : countOfWalk r ≡ countOf (commandWalk s)
   pub answer : r ≡ answerOf 0 (commandWalk s)
   pub logged : after ≡ written before 0 (avpsOf (commandWalk s))
-  pub few : (c : ℕ) → r ≡ Whole c → c ≤ 256
+  pub few : (c : ℕ) → r ≡ Whole c → c ≤ mostAvps
   pub read : (c : ℕ) → r ≡ Whole c → avpsIn after c ≡ avpsOf (commandWalk s)

@@ -1,14 +1,15 @@
-// 01, Walk, checks 3 to 7: flags, dictionary, width, value and depth of an AVP whose frame is right.
+// 01, Walk: the seven checks of an AVP. Check 2, its frame, is in frame.rt.
 ghost use mathlib.Core.Path.{_≡_};
-ghost use mathlib.Core.Bool.{_&&_};
-ghost use Prim.Native.Nat.{_+_, _≤_, _<_};
+ghost use mathlib.Core.Bool.{false, _&&_};
+ghost use Prim.Native.Nat.{_+_, _≤_};
 ghost use lib.Dec.{eqb};
 ghost use lib.ListN.{length};
 ghost use Rattle.rules.specs.Octets.{numberAt};
 ghost use Rattle.rules.specs.Verdict.{refused};
-ghost use Rattle.rules.specs.Avp.{flagV};
+ghost use Rattle.rules.specs.Header.{longestCommand};
+ghost use Rattle.rules.specs.Avp.{flagV, headerOf};
 ghost use Rattle.rules.specs.Dictionary.{dictionary, requiresM, isGroup};
-ghost use Rattle.rules.specs.Walk.{wrongFlags, unsupported, wrongWidth, wrongValue, tooDeep, contents, checkedAvp, checked};
+ghost use Rattle.rules.specs.Walk.{wrongFlags, unsupported, wrongWidth, wrongValue, tooDeep, contents, checkedAvp, checked, standing};
 ghost use Rattle.walk.specs.Promise.{InList};
 use crate::frame;
 use crate::frame::Frame;
@@ -20,6 +21,7 @@ use rules::Form;
 use rules::Outcome;
 use rules::kinds::AuthSessionState;
 use rules::kinds::TransferRequestType;
+use rules::limits;
 
 fn requires_m(d: Definition) -> bool
     ensures { λ r. ⌜ r ≡ requiresM d ⌝ }
@@ -118,13 +120,13 @@ fn too_deep(a: Avp, d: Definition) -> bool
     ensures { λ r. ⌜ r ≡ tooDeep a d ⌝ }
 {
     if is_group(d) {
-        return 4 <= a.depth;
+        return limits::DEEPEST <= a.depth;
     }
     false
 }
 
 fn refusal(number: u32, at: usize, a: Avp) -> Outcome
-    requires { ⌜ at < 16777216 ⌝ }
+    requires { ⌜ at ≤ longestCommand ⌝ }
     ensures { λ r. ⌜ r ≡ refused number at (a .vendor) (a .code) ⌝ }
 {
     avp::refusal(number, at as u32, a.vendor, a.code)
@@ -132,7 +134,7 @@ fn refusal(number: u32, at: usize, a: Avp) -> Outcome
 
 // Checks 3 to 7 of the AVP at a place, with what the dictionary says of its name.
 fn content(s: &[u8], at: usize, a: Avp, d: Definition) -> Outcome
-    requires { ⌜ (at + 8 ≤ length (now s)) × (at < 16777216) ⌝ }
+    requires { ⌜ (at + headerOf false ≤ length (now s)) × (at ≤ longestCommand) ⌝ }
     ensures { λ r. ⌜ r ≡ contents (now (s .entry)) at a d ⌝ }
 {
     if wrong_flags(s[at + 4], a, d) {
@@ -155,7 +157,7 @@ fn content(s: &[u8], at: usize, a: Avp, d: Definition) -> Outcome
 
 // Checks 3 to 7 of the AVP at a place, and whether its data are a list.
 fn judged(s: &[u8], at: usize, a: Avp) -> Checked
-    requires { ⌜ (at + 8 ≤ length (now s)) × (at < 16777216) ⌝ }
+    requires { ⌜ (at + headerOf false ≤ length (now s)) × (at ≤ longestCommand) ⌝ }
     ensures { λ r. ⌜ r ≡ checkedAvp dictionary (now (s .entry)) at a ⌝ }
 {
     let d = dictionary::definition(a.vendor, a.code);
@@ -169,11 +171,14 @@ fn judged(s: &[u8], at: usize, a: Avp) -> Checked
     Checked::Plain(a)
 }
 
-// Checks 2 to 7 of the AVP at a place of a list.
-pub(crate) fn check(s: &[u8], at: usize, end: usize, depth: u32) -> Checked
+// The seven checks of the AVP at a place of a list, with `count` AVPs in the record already.
+pub(crate) fn check(s: &[u8], at: usize, end: usize, depth: u32, count: usize) -> Checked
     requires { ⌜ InList (now s) at end ⌝ }
-    ensures { λ r. ⌜ r ≡ checked dictionary (now (s .entry)) at end depth ⌝ }
+    ensures { λ r. ⌜ r ≡ checked dictionary (now (s .entry)) (standing at end depth count) ⌝ }
 {
+    if limits::MOST_AVPS <= count {
+        return Checked::Fault(frame::fault(7002, at, 0, 0));
+    }
     let framed = frame::framed(s, at, end, depth);
     match framed {
         Frame::Holds(a) => judged(s, at, a),

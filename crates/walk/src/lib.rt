@@ -1,6 +1,7 @@
 // 01, Order of checks, Walk: the AVPs of a command in walk order, written into a lent log, or the first fault. The list walk
 // and the AVP walk call each other; the depth that is left falls at each group.
-ghost use Rattle.walk.specs.Promise.{Ready, AvpWalked, ListWalked, CommandWalked};
+ghost use Rattle.rules.specs.Walk.{standing};
+ghost use Rattle.walk.specs.Promise.{StandsIn, AvpWalked, ListWalked, CommandWalked};
 use rules::Checked;
 use rules::Verdict;
 use rules::limits;
@@ -29,18 +30,10 @@ fn walk_avp(
     count: usize,
     log: &mut [u32; limits::LOG_NUMBERS],
 ) -> Step
-    requires { ⌜ Ready (now s) at end depth count ⌝ }
-    ensures { λ r. ⌜ AvpWalked (now (s .entry)) at end depth count (now (log .entry)) r (now (log .exit)) ⌝ }
+    requires { ⌜ StandsIn (now s) (standing at end depth count) ⌝ }
+    ensures { λ r. ⌜ AvpWalked (now (s .entry)) (standing at end depth count) (now (log .entry)) r (now (log .exit)) ⌝ }
 {
-    if 256 <= count {
-        return Step::Halted(Verdict {
-            number: 7002,
-            place: at as u32,
-            vendor: 0,
-            code: 0,
-        });
-    }
-    let c = check::check(s, at, end, depth);
+    let c = check::check(s, at, end, depth, count);
     match c {
         Checked::Fault(v) => Step::Halted(v),
         Checked::Plain(a) => {
@@ -75,8 +68,8 @@ fn walk_list(
     count: usize,
     log: &mut [u32; limits::LOG_NUMBERS],
 ) -> Walk
-    requires { ⌜ Ready (now s) at end depth count ⌝ }
-    ensures { λ r. ⌜ ListWalked (now (s .entry)) at end depth count (now (log .entry)) r (now (log .exit)) ⌝ }
+    requires { ⌜ StandsIn (now s) (standing at end depth count) ⌝ }
+    ensures { λ r. ⌜ ListWalked (now (s .entry)) (standing at end depth count) (now (log .entry)) r (now (log .exit)) ⌝ }
 {
     let mut place = at;
     let mut met = count;
@@ -93,13 +86,13 @@ fn walk_list(
     Walk::Whole(met)
 }
 
-// The walk of a command's own list. A command of under 20 octets has no list; one of more than 16,384 is refused as by its
-// header.
+// The walk of a command's own list. A command without the octets of a header has no list; one that is longer than any is
+// refused as by its header.
 pub fn walk_command(s: &[u8], log: &mut [u32; limits::LOG_NUMBERS]) -> Walk
     ensures { λ r. ⌜ CommandWalked (now (s .entry)) (now (log .entry)) r (now (log .exit)) ⌝ }
 {
     log::size(log);
-    if 16384 < s.len() {
+    if limits::LONGEST_COMMAND < s.len() {
         return Walk::Stopped(Verdict {
             number: 7001,
             place: 1,
@@ -107,8 +100,8 @@ pub fn walk_command(s: &[u8], log: &mut [u32; limits::LOG_NUMBERS]) -> Walk
             code: 0,
         });
     }
-    if s.len() < 20 {
+    if s.len() < limits::HEADER_SIZE {
         return Walk::Whole(0);
     }
-    walk_list(s, 20, s.len(), 1, 0, log)
+    walk_list(s, limits::HEADER_SIZE, s.len(), 1, 0, log)
 }

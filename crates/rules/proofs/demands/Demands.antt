@@ -15,9 +15,10 @@ use Rattle.rules.specs.Command.{commandOutcome, commandVerdict}
 use Rattle.rules.specs.Record.{emptyRecord, reading}
 use Rattle.rules.specs.Meaning.{meaningOf, meaningOver}
 use Rattle.rules.specs.Agreement.{Agree}
-use Rattle.rules.specs.Writer.{Draft, draftOutcome, writing}
+use Rattle.rules.specs.Draft.{Draft, ownDraft}
+use Rattle.rules.specs.Writer.{draftOutcome, writing}
 use Rattle.rules.specs.Calls.{allWritten, acceptedDrafts, SameInOrder}
-use Rattle.rules.specs.Demands.{AcceptedCommand, AcceptedWrite, Unaltered, WroteMeaning, ownDraft, Rewritten, WholeOutput}
+use Rattle.rules.specs.Demands.{AcceptedCommand, AcceptedWrite, Unaltered, WroteMeaning, Rewritten, WholeOutput}
 use Rattle.rules.proofs.demands.numbering.Numbering.{command-number, draft-number, command-table, command-not-writers, draft-table}
 use Rattle.rules.proofs.demands.again.RoundTrip.{record-means, draft-accepted, draft-written, written-long}
 use Rattle.rules.proofs.demands.agreement.Agreement.{same-meaning}

@@ -5,27 +5,24 @@ use mathlib.Core.Bool.{Bool, true, false}
 use Prim.Native.Nat.{ℕ, _+_}
 use lib.ListN.{length, take, drop, replicate}
 use Rattle.rules.specs.declared.Written.{Written}
-use Rattle.rules.specs.Octets.{numberAt, padded}
+use Rattle.rules.specs.Octets.{numberAt, padded, octets}
 use Rattle.rules.specs.Verdict.{verdict}
-use Rattle.rules.specs.Header.{lengthOutcome, applicationOutcome, flagsOutcome, headerOutcome}
+use Rattle.rules.specs.Header.{applicationNt, lengthOutcome, applicationOutcome, flagsOutcome, headerOutcome}
 use Rattle.rules.specs.Avp.{avpAt}
 use Rattle.rules.specs.Rows.{rowsOf, admitsOthers}
 use Rattle.rules.specs.Dictionary.{dictionary, find}
-use Rattle.rules.specs.Walk.{framedBy, framing, wrongFlags, unsupported, wrongWidth, wrongValue, tooDeep, contents, checked, walkAvp, walkList}
+use Rattle.rules.specs.Walk.{framing, wrongFlags, unsupported, wrongWidth, wrongValue, tooDeep, contents, checked, walkAvp, walkList}
 use Rattle.rules.specs.RowChecks.{admissionFrom, memberOutcome, missingFrom, membersOutcome, membersAt, groupsOutcome, rowsOutcome}
 use Rattle.rules.specs.Search.{firstFrom}
 use Rattle.rules.specs.Exchange.{volume, firstRequest, laterRequest, requestOutcome, resultOutcome, policiesOutcome, policyOutcome, eachPolicy, answerOutcome, windowOutcome, eachWindow, exchangeOutcome}
 use Rattle.rules.specs.Command.{walkOf, listsOutcome, commandOutcome, commandVerdict}
 use Rattle.rules.specs.Record.{recordOf, emptyRecord, reading}
 use Rattle.rules.specs.Agreement.{fillsOne, agreesBelow, agree}
-use Rattle.rules.specs.Writer.{octets, avpFlags, avpHeader, avpOctets, listOctets, flagsOctet, commandHeader, commandOctets, hasRoom, isBlank, allBlank, isPlaced, allPlaced, isTree, ownSize, sizeUnder, hasSizes, identifiersFit, isWellFormed, draftOutcome, octetsWritten, writing, outputAfter, Draft}
+use Rattle.rules.specs.Wire.{avpFlags, avpHeader, avpOctets, listOctets, flagsOctet, commandHeader, commandOctets}
+use Rattle.rules.specs.Draft.{isBlank, allBlank, isPlaced, allPlaced, isTree, membersSize, hasSizes, identifiersFit, nameFits, namesFit, isWellFormed, Draft, ownDraft}
+use Rattle.rules.specs.Writer.{draftOutcome, octetsWritten, writing, outputAfter}
 use Rattle.rules.specs.Calls.{rest, outputAfterAll, acceptedDrafts}
-use Rattle.rules.specs.Demands.{ownDraft}
-use Rattle.rules.specs.Edges.{header, sFront, sLast}
-
--- document 01's command S
-unfoldable pub s : List ℕ
-s = header 1 160 0xC0 0x84 ++ (sFront ++ sLast)
+use Rattle.rules.specs.Edges.{header, avp, avpOf3GPP, sBegins, vendorId, sGoesOn, sEnds, sFront, s}
 
 -- other octets from a place on
 abbrev pub changed : List ℕ → ℕ → List ℕ → List ℕ
@@ -97,7 +94,7 @@ worked x = record {
 
 -- each example has its answers, its output and its accepted drafts
 pub worked-calls : map worked examples ≡ examples
-unfolding examples s altered header sFront sLast answersOf outputAfterAll acceptedDrafts numberAt padded lengthOutcome applicationOutcome flagsOutcome headerOutcome avpAt rowsOf admitsOthers dictionary find framedBy framing wrongFlags unsupported wrongWidth wrongValue tooDeep contents checked walkAvp walkList admissionFrom memberOutcome missingFrom membersOutcome membersAt groupsOutcome rowsOutcome firstFrom volume firstRequest laterRequest requestOutcome resultOutcome policiesOutcome policyOutcome eachPolicy answerOutcome windowOutcome eachWindow exchangeOutcome walkOf listsOutcome commandOutcome commandVerdict recordOf emptyRecord reading octets avpFlags avpHeader avpOctets listOctets flagsOctet commandHeader commandOctets hasRoom isBlank allBlank isPlaced allPlaced isTree ownSize sizeUnder hasSizes identifiersFit isWellFormed draftOutcome octetsWritten writing outputAfter
+unfolding examples s altered header avp avpOf3GPP sBegins vendorId sGoesOn sEnds sFront answersOf outputAfterAll acceptedDrafts numberAt padded lengthOutcome applicationOutcome flagsOutcome headerOutcome avpAt rowsOf admitsOthers dictionary find framing wrongFlags unsupported wrongWidth wrongValue tooDeep contents checked walkAvp walkList admissionFrom memberOutcome missingFrom membersOutcome membersAt groupsOutcome rowsOutcome firstFrom volume firstRequest laterRequest requestOutcome resultOutcome policiesOutcome policyOutcome eachPolicy answerOutcome windowOutcome eachWindow exchangeOutcome walkOf listsOutcome commandOutcome commandVerdict recordOf emptyRecord reading octets avpFlags avpHeader avpOctets listOctets flagsOctet commandHeader commandOctets isBlank allBlank isPlaced allPlaced isTree membersSize hasSizes identifiersFit nameFits namesFit isWellFormed draftOutcome octetsWritten writing outputAfter
 worked-calls = refl
 
 -- ---- agreement
@@ -119,5 +116,5 @@ comparisons =
     ∷ compare (changed s 4 (0x40 ∷ [])) false ∷ compare (take 144 s) false ∷ []
 
 pub worked-agreement : map (λ x. agree s (x .other)) comparisons ≡ map (λ x. x .agrees) comparisons
-unfolding comparisons s altered header sFront sLast fillsOne agreesBelow agree numberAt padded avpAt dictionary find framedBy framing wrongFlags unsupported wrongWidth wrongValue tooDeep contents checked walkAvp walkList walkOf
+unfolding comparisons s altered header avp avpOf3GPP sBegins vendorId sGoesOn sEnds sFront fillsOne agreesBelow agree numberAt padded avpAt dictionary find framing wrongFlags unsupported wrongWidth wrongValue tooDeep contents checked walkAvp walkList walkOf octets
 worked-agreement = refl

@@ -3,3 +3,4 @@ pub mod Items
 pub mod Trees
 pub mod Sequences
 pub mod Lists
+pub mod Members

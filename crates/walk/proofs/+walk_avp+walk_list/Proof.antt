@@ -2,11 +2,14 @@
 -- walk to its AVPs.
 use borrow.Author.Needs.{needs}
 use native.Mathlib.Omega.{arith}
-use mathlib.Core.Path.{sym, _∙_}
+use mathlib.Core.Path.{_≡_, sym, _∙_}
 use Prim.Native.Nat.{ℕ, _+_, _-_, _*_, _<_}
-use Rattle.rules.proofs.Walk.{avp-many, avp-fault}
+use Rattle.rules.specs.declared.Checked.the-variants.{Group}
+use Rattle.rules.specs.Dictionary.{dictionary}
+use Rattle.rules.specs.Walk.{Standing, standing, checked}
+use Rattle.rules.proofs.Passed.{group-framed}
 use Rattle.walk.specs.Promise.{nextAfter, stepTo, AvpWalked}
-use Rattle.walk.proofs.OneAvp.{group-placed, group-level, fault-walked, plain-walked, group-walked}
+use Rattle.walk.proofs.OneAvp.{group-level, group-few, fault-walked, plain-walked, group-walked}
 use Rattle.walk.proofs.Along.{Turn, turn-start, turn-again, turn-stopped, turn-end}
 use borrow.Fn.Kinds.{In}
 use borrow.Fn.PlainCycle.{Measures, is, falls, and}
@@ -55,18 +58,12 @@ walk-avp-claims t = (
   walk-list.Post,
 )
 
-walk-avp-cast-t17 : (t : ℕ) → walk-avp-lts.Need-cast-t17 (walk-avp-claims t) (walk-avp-at t) walk-avp.Post
-walk-avp-cast-t17 t c = omega arith
-
-walk-avp-returns : (t : ℕ) → walk-avp-lts.Need-returns (walk-avp-claims t) (walk-avp-at t) walk-avp.Post
-walk-avp-returns t c =
-    let st = c .before .before in
-    let a = st .args in
-    fault-walked (a .s .now) (a .at) (a .end) (a .depth) (a .count) (a .log .now) _
-    (λ n. avp-many _ _ _ _ _ _ _ (c .if1 .taken))
+-- where the AVP walk stands
+abbrev here : (t : ℕ) → walk-avp-lts.Start (walk-avp-claims t) (walk-avp-at t) walk-avp.Post → Standing
+here t st = let a = st .args in standing (a .at) (a .end) (a .depth) (a .count)
 
 walk-avp-check-requires : (t : ℕ) → walk-avp-lts.Need-check-requires (walk-avp-claims t) (walk-avp-at t) walk-avp.Post
-walk-avp-check-requires t c κs = c .before .before .pre .1 .place
+walk-avp-check-requires t c κs = c .before .pre .1 .place
 
 walk-avp-enum-known-c : (t : ℕ) → walk-avp-lts.Need-enum-known-c (walk-avp-claims t) (walk-avp-at t) walk-avp.Post
 walk-avp-enum-known-c t c = search needs
@@ -77,8 +74,8 @@ walk-avp-enum-known-c-2 t c = search needs
 walk-avp-put-requires : (t : ℕ) → walk-avp-lts.Need-put-requires (walk-avp-claims t) (walk-avp-at t) walk-avp.Post
 walk-avp-put-requires t c κs = search needs
 
-walk-avp-add-t22 : (t : ℕ) → walk-avp-lts.Need-add-t22 (walk-avp-claims t) (walk-avp-at t) walk-avp.Post
-walk-avp-add-t22 t c = omega arith
+walk-avp-add-t19 : (t : ℕ) → walk-avp-lts.Need-add-t19 (walk-avp-claims t) (walk-avp-at t) walk-avp.Post
+walk-avp-add-t19 t c = omega arith
 
 walk-avp-next-after-requires : (t : ℕ) → walk-avp-lts.Need-next-after-requires (walk-avp-claims t) (walk-avp-at t) walk-avp.Post
 walk-avp-next-after-requires t c κs = search needs
@@ -95,32 +92,34 @@ walk-avp-cast-start t c = search needs
 walk-avp-cast-length : (t : ℕ) → walk-avp-lts.Need-cast-length (walk-avp-claims t) (walk-avp-at t) walk-avp.Post
 walk-avp-cast-length t c = search needs
 
+-- a group that passed, from its place in the walk on
+group-checked : (t : ℕ) (g : walk-avp-lts.After-c3 (walk-avp-claims t) (walk-avp-at t) walk-avp.Post) →
+    let k = g .before .before in
+    checked dictionary (k .before .before .args .s .now) (here t (k .before .before)) ≡ Group (g .c3 .given .0 .0)
+group-checked t g = sym (g .before .before .check .ensures) ∙ g .c3 .given .1
+
 walk-avp-add-walk-list : (t : ℕ) → walk-avp-lts.Need-add-walk-list (walk-avp-claims t) (walk-avp-at t) walk-avp.Post
 walk-avp-add-walk-list t c =
     let g = c .before .before .before .before .before in
-    let k = g .before .before in
-    let st = k .before .before .before in
-    let a = st .args in
-    let e = sym (k .check .ensures) ∙ g .c3 .given .1 in
-    let p = group-placed (a .s .now) (a .at) (a .end) (a .depth) e in
+    let st = g .before .before .before .before in
+    let p = group-framed dictionary (st .args .s .now) (here t st) (group-checked t g) in
     omega (arith, p, st .pre .1 .place)
 
 walk-avp-add-walk-list-2 : (t : ℕ) → walk-avp-lts.Need-add-walk-list-2 (walk-avp-claims t) (walk-avp-at t) walk-avp.Post
-walk-avp-add-walk-list-2 t c = omega (arith, c .before .before .before .before .before .before .before .before .before .before .pre .1)
+walk-avp-add-walk-list-2 t c = omega (arith, c .before .before .before .before .before .before .before .before .before .pre .1)
 
 walk-avp-add-walk-list-3 : (t : ℕ) → walk-avp-lts.Need-add-walk-list-3 (walk-avp-claims t) (walk-avp-at t) walk-avp.Post
-walk-avp-add-walk-list-3 t c = omega (arith, c .before .before .before .before .before .before .before .before .if1 .left)
+walk-avp-add-walk-list-3 t c = omega (arith, c .before .before .before .before .before .before .before .before .before .pre .1)
 
 walk-avp-walk-list-requires : (t : ℕ) → walk-avp-lts.Need-walk-list-requires (walk-avp-claims t) (walk-avp-at t) walk-avp.Post
 walk-avp-walk-list-requires t c κs =
     let g = c .before .before .before .before .before .before in
-    let k = g .before .before in
-    let st = k .before .before .before in
-    let a = st .args in
-    let e = sym (k .check .ensures) ∙ g .c3 .given .1 in
-    let p = group-placed (a .s .now) (a .at) (a .end) (a .depth) e in
-    let l = group-level (a .s .now) (a .at) (a .end) (a .depth) e in
-    let few = k .before .if1 .left in
+    let st = g .before .before .before .before in
+    let s = st .args .s .now in
+    let e = group-checked t g in
+    let p = group-framed dictionary s (here t st) e in
+    let l = group-level s (here t st) e in
+    let few = group-few s (here t st) e in
     let place = st .pre .1 .place in (
       omega (arith, l, st .pre .0),
       record { place = omega (arith, p, place); level = omega (arith, l); few = omega (arith, few) },
@@ -135,50 +134,46 @@ walk-avp-next-after-requires-2 t c κs = search needs
 walk-avp-enum-known-members-2 : (t : ℕ) → walk-avp-lts.Need-enum-known-members-2 (walk-avp-claims t) (walk-avp-at t) walk-avp.Post
 walk-avp-enum-known-members-2 t c = search needs
 
+walk-avp-returns : (t : ℕ) → walk-avp-lts.Need-returns (walk-avp-claims t) (walk-avp-at t) walk-avp.Post
+walk-avp-returns t c =
+    let k = c .before .before .before in
+    let st = k .before .before in
+    let a = st .args in
+    fault-walked (a .s .now) (here t st) (a .log .now) _ (sym (k .check .ensures) ∙ c .before .c .given .1)
+
 walk-avp-returns-2 : (t : ℕ) → walk-avp-lts.Need-returns-2 (walk-avp-claims t) (walk-avp-at t) walk-avp.Post
 walk-avp-returns-2 t c =
-    let k = c .before .before .before in
-    let st = k .before .before .before in
-    let a = st .args in
-    fault-walked (a .s .now) (a .at) (a .end) (a .depth) (a .count) (a .log .now) _
-    (λ n. avp-fault _ _ _ _ _ _ _ (k .before .if1 .left) (sym (k .check .ensures) ∙ c .before .c .given .1))
-
-walk-avp-returns-3 : (t : ℕ) → walk-avp-lts.Need-returns-3 (walk-avp-claims t) (walk-avp-at t) walk-avp.Post
-walk-avp-returns-3 t c =
     let p = c .before in
     let g = p .before .before .before in
     let k = g .before .before in
-    let st = k .before .before .before in
+    let st = k .before .before in
     let a = st .args in
     rw (c .next-after .ensures)
-    (plain-walked (a .s .now) (a .at) (a .end) (a .depth) (a .count) (a .log .now) (k .before .if1 .left)
-    _ (p .put .ensures) (sym (k .check .ensures) ∙ g .c2 .given .1))
+    (plain-walked (a .s .now) (here t st) (a .log .now) _ (p .put .ensures) (sym (k .check .ensures) ∙ g .c2 .given .1))
 
 -- what is promised, with the group and what the walk of its members gave
 group-promise : (t : ℕ) (l : walk-avp-lts.After-walk-list (walk-avp-claims t) (walk-avp-at t) walk-avp.Post) →
     let g = l .before .before .before .before .before .before .before in
-    let a = g .before .before .before .before .before .args in
-    AvpWalked (a .s .now) (a .at) (a .end) (a .depth) (a .count) (a .log .now)
+    let st = g .before .before .before .before in
+    AvpWalked (st .args .s .now) (here t st) (st .args .log .now)
     (stepTo (nextAfter (g .c3 .given .0 .0)) (l .walk-list .result)) (l .walk-list .last .1 .1 .1 .1 .1 .0)
 group-promise t l =
     let w = l .before .before .before .before in
     let g = w .before .before .before in
-    let k = g .before .before in
-    let st = k .before .before .before in
+    let st = g .before .before .before .before in
     let a = st .args in
-    group-walked (a .s .now) (a .at) (a .end) (a .depth) (a .count) (a .log .now) (k .before .if1 .left)
-    _ (w .put2 .ensures) (sym (k .check .ensures) ∙ g .c3 .given .1) _ _ (l .walk-list .ensures)
+    group-walked (a .s .now) (here t st) (a .log .now) _ (w .put2 .ensures) (group-checked t g) _ _ (l .walk-list .ensures)
 
-walk-avp-returns-4 : (t : ℕ) → walk-avp-lts.Need-returns-4 (walk-avp-claims t) (walk-avp-at t) walk-avp.Post
-walk-avp-returns-4 t c =
+walk-avp-returns-3 : (t : ℕ) → walk-avp-lts.Need-returns-3 (walk-avp-claims t) (walk-avp-at t) walk-avp.Post
+walk-avp-returns-3 t c =
     let m = c .before .before in
     rw (c .next-after2 .ensures) (rw (m .members .given .1) at (group-promise t (m .before .before)))
 
-walk-avp-returns-5 : (t : ℕ) → walk-avp-lts.Need-returns-5 (walk-avp-claims t) (walk-avp-at t) walk-avp.Post
-walk-avp-returns-5 t c = rw (c .before .members2 .given .1) at (group-promise t (c .before .before .before))
+walk-avp-returns-4 : (t : ℕ) → walk-avp-lts.Need-returns-4 (walk-avp-claims t) (walk-avp-at t) walk-avp.Post
+walk-avp-returns-4 t c = rw (c .before .members2 .given .1) at (group-promise t (c .before .before .before))
 
 abbrev walk-list-Inv-loop : walk-list-lts.InvT-loop
-walk-list-Inv-loop s at end depth count log₀ place₀ met₀ log place met = Turn s at end depth count log₀ place met log
+walk-list-Inv-loop s at end depth count log₀ place₀ met₀ log place met = Turn s (standing at end depth count) log₀ place met log
 
 abbrev walk-list-μ-loop : walk-list-lts.MeasureT-loop
 walk-list-μ-loop s at end depth count log₀ place₀ met₀ log place met = end - place
@@ -193,7 +188,7 @@ walk-list-loop-holds :
     walk-list-μ-loop
 walk-list-loop-holds t c =
     let st = c .before in
-    turn-start _ _ _ _ _ _ (st .pre .1 .place .order) (st .pre .1 .few)
+    turn-start _ _ _ (st .pre .1 .place .order) (st .pre .1 .few)
 
 walk-list-walk-avp-requires : (t : ℕ) → walk-list-lts.Need-walk-avp-requires (
   walk-avp-below t,
@@ -237,7 +232,7 @@ walk-list-loop-again :
 walk-list-loop-again t c =
     let w = c .before .before .before in
     let lp = w .before .before .before in
-    turn-again _ _ _ _ _ _ _ _ _ (lp .loop .inv) (w .before .before .loop-test .taken) _ _ _
+    turn-again _ _ _ _ _ _ (lp .loop .inv) (w .before .before .loop-test .taken) _ _ _
     (rw (c .before .one .given .1) at (w .walk-avp .ensures))
 
 walk-list-enum-known-one-2 : (t : ℕ) → walk-list-lts.Need-enum-known-one-2 (
@@ -257,7 +252,7 @@ walk-list-returns :
 walk-list-returns t c =
     let w = c .before .before .before in
     let lp = w .before .before .before in
-    turn-stopped _ _ _ _ _ _ _ _ _ (lp .loop .inv) (w .before .before .loop-test .taken) _ _
+    turn-stopped _ _ _ _ _ _ (lp .loop .inv) (w .before .before .loop-test .taken) _ _
     (rw (c .before .one2 .given .1) at (w .walk-avp .ensures))
 
 walk-list-returns-2 :
@@ -268,19 +263,17 @@ walk-list-returns-2 :
     walk-list.Post
     walk-list-Inv-loop
     walk-list-μ-loop
-walk-list-returns-2 t c = turn-end _ _ _ _ _ _ _ _ _ (c .before .loop .inv) (c .loop-test .left)
+walk-list-returns-2 t c = turn-end _ _ _ _ _ _ (c .before .loop .inv) (c .loop-test .left)
 
 pub +walk-avp+walk-list-spec : {M : Type 1} → statement M
 +walk-avp+walk-list-spec = close μ-walk-avp μ-walk-list (λ t. walk-avp-lts.spec (walk-avp-claims t)
     (walk-avp-at t)
     walk-avp.Post
-    (walk-avp-cast-t17 t)
-    (walk-avp-returns t)
     (walk-avp-check-requires t)
     (walk-avp-enum-known-c t)
     (walk-avp-enum-known-c-2 t)
     (walk-avp-put-requires t)
-    (walk-avp-add-t22 t)
+    (walk-avp-add-t19 t)
     (walk-avp-next-after-requires t)
     (walk-avp-enum-known-c-3 t)
     (walk-avp-put-requires-2 t)
@@ -293,10 +286,10 @@ pub +walk-avp+walk-list-spec : {M : Type 1} → statement M
     (walk-avp-enum-known-members t)
     (walk-avp-next-after-requires-2 t)
     (walk-avp-enum-known-members-2 t)
+    (walk-avp-returns t)
     (walk-avp-returns-2 t)
     (walk-avp-returns-3 t)
-    (walk-avp-returns-4 t)
-    (walk-avp-returns-5 t))
+    (walk-avp-returns-4 t))
     λ t. walk-list-lts.spec
     (walk-avp-below t, walk-avp.Post)
     (walk-list-at t)

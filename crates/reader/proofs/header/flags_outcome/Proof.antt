@@ -1,7 +1,7 @@
 -- `reader::header::flags_outcome` meets its contract.
 use borrow.Author.Needs.{needs}
 use mathlib.Core.Path.{sym, _∙_}
-use borrow.Author.Tests.{eq-eqb, ne-eqb}
+use borrow.Author.Tests.{not-true, not-false}
 use Rattle.rules.proofs.Header.{flags-error-request, flags-not-proxiable, flags-error, flags-pass}
 use Rattle.reader.proofs.header.flags_outcome.Statement.{statement}
 use Rattle.reader.proofs.header.flags_outcome.Tie as tie
@@ -17,33 +17,42 @@ returns c =
     let r = c .before .before in
     c .refusal .ensures ∙ sym (flags-error-request (r .before .args .flags) (sym (r .is-error-request .ensures) ∙ c .before .if1 .taken))
 
+has-flag-requires : tie.Need-has-flag-requires
+has-flag-requires c κs = search needs
+
 refusal-requires-2 : tie.Need-refusal-requires-2
 refusal-requires-2 c κs = search needs
 
 returns-2 : tie.Need-returns-2
 returns-2 c =
-    let l = c .before .before in
+    let p = c .before .before in
+    let l = p .before in
     let r = l .before in
     c .refusal2 .ensures
-    ∙ sym (flags-not-proxiable (r .before .args .flags) (sym (r .is-error-request .ensures) ∙ l .if1 .left) (ne-eqb _ _ (c .before .if2 .taken)))
+    ∙ sym (flags-not-proxiable (r .before .args .flags) (sym (r .is-error-request .ensures) ∙ l .if1 .left) (sym (p .has-flag .ensures) ∙ not-true _ (c .before .if2 .taken)))
+
+has-flag-requires-2 : tie.Need-has-flag-requires-2
+has-flag-requires-2 c κs = search needs
 
 refusal-requires-3 : tie.Need-refusal-requires-3
 refusal-requires-3 c κs = search needs
 
 returns-3 : tie.Need-returns-3
 returns-3 c =
-    let p = c .before .before in
+    let e = c .before .before in
+    let p = e .before .before in
     let l = p .before in
     let r = l .before in
     c .refusal3 .ensures
-    ∙ sym (flags-error (r .before .args .flags) (sym (r .is-error-request .ensures) ∙ l .if1 .left) (eq-eqb _ _ (p .if2 .left)) (eq-eqb _ _ (c .before .if3 .taken)))
+    ∙ sym (flags-error (r .before .args .flags) (sym (r .is-error-request .ensures) ∙ l .if1 .left) (sym (p .has-flag .ensures) ∙ not-false _ (e .before .if2 .left)) (sym (e .has-flag2 .ensures) ∙ c .before .if3 .taken))
 
 returns-4 : tie.Need-returns-4
 returns-4 c =
-    let p = c .before in
+    let e = c .before in
+    let p = e .before .before in
     let l = p .before in
     let r = l .before in
-    sym (flags-pass (r .before .args .flags) (sym (r .is-error-request .ensures) ∙ l .if1 .left) (eq-eqb _ _ (p .if2 .left)) (ne-eqb _ _ (c .if3 .left)))
+    sym (flags-pass (r .before .args .flags) (sym (r .is-error-request .ensures) ∙ l .if1 .left) (sym (p .has-flag .ensures) ∙ not-false _ (e .before .if2 .left)) (sym (e .has-flag2 .ensures) ∙ c .if3 .left))
 
 pub flags-outcome-spec : {M : Type 1} → statement M
 flags-outcome-spec =
@@ -52,8 +61,10 @@ flags-outcome-spec =
     is-error-request-requires
     refusal-requires
     returns
+    has-flag-requires
     refusal-requires-2
     returns-2
+    has-flag-requires-2
     refusal-requires-3
     returns-3
     returns-4)

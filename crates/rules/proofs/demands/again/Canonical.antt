@@ -15,7 +15,7 @@ use Rattle.rules.specs.Walk.{whole, avpsOf}
 use Rattle.rules.specs.Exchange.{exchangeOutcome}
 use Rattle.rules.specs.Command.{walkOf, listsOutcome, commandOutcome}
 use Rattle.rules.specs.Meaning.{Cell, meaningOf, cellOf}
-use Rattle.rules.specs.Writer.{listOctets, commandOctets}
+use Rattle.rules.specs.Wire.{listOctets, commandOctets}
 use Rattle.rules.proofs.Header.{length-pass, application-pass}
 use Rattle.rules.proofs.demands.items.Items.{Item, cellIn, octetsOf, avpsAt, All, Fit, Listed, judged}
 use Rattle.rules.proofs.demands.items.Trees.{sizeOf}

@@ -17,7 +17,7 @@ use Rattle.rules.specs.Avp.{flagsAt, named}
 use Rattle.rules.specs.Dictionary.{dictionary, find, isGroup}
 use Rattle.rules.specs.Walk.{contents, wrongWidth, wrongValue}
 use Rattle.rules.specs.Meaning.{Cell}
-use Rattle.rules.specs.Writer.{hasVendor, avpHeader}
+use Rattle.rules.specs.Wire.{hasVendor, avpHeader}
 use Rattle.rules.proofs.Tests.{and-true}
 use Rattle.rules.proofs.Fields.{header-least}
 use Rattle.rules.proofs.Walk.{by-cases, contents-pass}

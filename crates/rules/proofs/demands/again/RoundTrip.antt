@@ -5,7 +5,7 @@ use mathlib.Core.Bool.{true}
 use mathlib.Core.List.{List, [], _∷_, map}
 use Prim.Native.Nat.{ℕ, zero, suc, _+_, _-_, _^_, _≤_, _<_, min}
 use native.Mathlib.Omega.{arith}
-use borrow.Author.Tests.{lt-ltb, le-ltb, le-leb, eq-eqb}
+use borrow.Author.Tests.{lt-ltb, le-ltb, le-leb}
 use lib.ListN.{length, drop, replicate, length-append, length-replicate}
 use lib.Seq.{take-at, drop-at}
 use Rattle.rules.specs.declared.Avp.{Avp}
@@ -20,12 +20,14 @@ use Rattle.rules.specs.Search.{blank}
 use Rattle.rules.specs.Command.{commandOutcome}
 use Rattle.rules.specs.Record.{recordOf, reading, recorded}
 use Rattle.rules.specs.Meaning.{meaningOf, meaningOver, cellOf}
-use Rattle.rules.specs.Writer.{Draft, cellsOf, hasRoom, isBlank, allBlank, isPlaced, allPlaced, identifiersFit, isWellFormed, commandOctets, draftOctets, draftOutcome, octetsWritten}
+use Rattle.rules.specs.Wire.{commandOctets}
+use Rattle.rules.specs.Draft.{ownDraft, cellsOf, isBlank, allBlank, unusedBlank, isPlaced, allPlaced, nameFits, namesFit}
+use Rattle.rules.specs.Writer.{draftOctets, draftOutcome, octetsWritten}
 use Rattle.rules.proofs.Walk.{by-cases}
 use Rattle.rules.proofs.demands.items.Items.{Item, cellIn, octetsOf, step, avpOf, avpsAt, All, Fit}
 use Rattle.rules.proofs.demands.items.Trees.{isGroupCell}
 use Rattle.rules.proofs.demands.items.Sequences.{length-cons, avps-nil, avps-cons, length-avps}
-use Rattle.rules.proofs.demands.written.Drafts.{WellFormed}
+use Rattle.rules.proofs.demands.written.Drafts.{WellFormed, is-well-formed}
 use Rattle.rules.proofs.demands.octets.Digits.{numberAt-below}
 use Rattle.rules.proofs.demands.read.Commands.{Accepted, accepted, avps-are, cells-are}
 use Rattle.rules.proofs.demands.again.Canonical.{again-long, again-accepted, again-means}
@@ -50,51 +52,40 @@ module _ (c : List ℕ) (xs : List Avp) (few : length xs ≤ 256) where
   blanks zero = refl
   blanks (suc n) = blanks n
 
-  blank-all : allBlank (drop (recordOf c xs .count) (recordOf c xs .avps)) ≡ true
+  blank-all : unusedBlank (recordOf c xs) ≡ true
   unfolding recordOf
   blank-all =
       ap allBlank (drop-at xs (replicate (mostAvps - length xs) blank) (length xs) refl) ∙ blanks (mostAvps - length xs)
 
--- ---- AVPs that were read lie in the octets
+-- ---- AVPs that were read lie in the octets, and their names fit
 
-placed-of : (dict : List Entry) (x : Item) (at size : ℕ) → Fit dict x → at + step x ≤ size
-    → isPlaced dict size (avpOf at x) ≡ true
-unfolding isPlaced
-placed-of dict x at size f h =
-    by-cases (isGroupCell dict (x .cell))
-    (λ g. simp (g, lt-ltb _ _ (f .vendor-small), lt-ltb _ _ (f .code-small)))
-    (λ g.
-    let own : length (x .cell .octets) ≡ x .cell .length = f .data-is ∙ rw g in
-    simp (g, le-leb (endOf (avpOf at x)) size (omega arith), lt-ltb _ _ (f .vendor-small), lt-ltb _ _ (f .code-small)))
+module _ (dict : List Entry) (size : ℕ) where
+  placed-of : (x : Item) (at : ℕ) → Fit dict x → at + step x ≤ size → isPlaced dict size (avpOf at x) ≡ true
+  unfolding isPlaced
+  placed-of x at f h =
+      by-cases (isGroupCell dict (x .cell))
+      (λ g. rw g)
+      (λ g.
+      let own : length (x .cell .octets) ≡ x .cell .length = f .data-is ∙ rw g in
+      rw (g, le-leb (endOf (avpOf at x)) size (omega arith)))
 
-placed-all : (dict : List Entry) (xs : List Item) (at size : ℕ) → All (Fit dict) xs → at + length (octetsOf xs) ≤ size
-    → allPlaced dict size (avpsAt at xs) ≡ true
-unfolding allPlaced
-placed-all dict [] at size f h = ap (allPlaced dict size) (avps-nil at)
-placed-all dict (x ∷ xs) at size f h =
-    let l = length-cons x xs in
-    ap (allPlaced dict size) (avps-cons at x xs)
-    ∙ rw (placed-of dict x at size (f .0) (omega arith), placed-all dict xs (at + step x) size (f .1) (omega arith))
+  placed-all : (xs : List Item) (at : ℕ) → All (Fit dict) xs → at + length (octetsOf xs) ≤ size
+      → allPlaced dict size (avpsAt at xs) ≡ true
+  unfolding allPlaced
+  placed-all [] at f h = ap (allPlaced dict size) (avps-nil at)
+  placed-all (x ∷ xs) at f h =
+      let l = length-cons x xs in
+      ap (allPlaced dict size) (avps-cons at x xs)
+      ∙ rw (placed-of x at (f .0) (omega arith), placed-all xs (at + step x) (f .1) (omega arith))
 
--- the tests of 7006 hold together
-is-well-formed : (d : Draft) → WellFormed d → isWellFormed d ≡ true
-unfolding isWellFormed hasRoom identifiersFit
-is-well-formed d w =
-    simp (
-      eq-eqb _ _ (w .room),
-      le-leb _ _ (w .few),
-      lt-ltb _ _ (w .hop-small),
-      lt-ltb _ _ (w .end-small),
-      w .blank,
-      w .placed-all,
-      w .tree,
-      w .sizes,
-    )
+names-all : (dict : List Entry) (xs : List Item) (at : ℕ) → All (Fit dict) xs → namesFit (avpsAt at xs) ≡ true
+unfolding namesFit nameFits
+names-all dict [] at f = ap namesFit (avps-nil at)
+names-all dict (x ∷ xs) at f =
+    let e = names-all dict xs (at + step x) (f .1) in
+    ap namesFit (avps-cons at x xs) ∙ simp (lt-ltb _ _ (f .0 .vendor-small), lt-ltb _ _ (f .0 .code-small), e)
 
--- ---- the draft of a command: its record over its octets
-
-abbrev pub draftOf : List ℕ → Draft
-draftOf c = record { «record» = reading c .«record»; octets = c }
+-- ---- a command's own record, over its octets
 
 module _ (c : List ℕ) (oct : AreOctets c) (pass : commandOutcome c ≡ Pass) where
   read : Accepted c
@@ -121,7 +112,7 @@ module _ (c : List ℕ) (oct : AreOctets c) (pass : commandOutcome c ≡ Pass) w
   pub record-means : meaningOver (reading c .«record») c ≡ meaningOf c
   record-means = ap (λ (r : Record). meaningOver r c) record-is ∙ means-all
 
-  draft-cells : cellsOf (draftOf c) ≡ map cellIn (read .items)
+  draft-cells : cellsOf (ownDraft c) ≡ map cellIn (read .items)
   draft-cells = ap (map (cellOf dictionary c)) (recorded-is ∙ sym (avps-are c read)) ∙ cells-are c read
 
   -- its numbers fit their places
@@ -132,7 +123,7 @@ module _ (c : List ℕ) (oct : AreOctets c) (pass : commandOutcome c ≡ Pass) w
       let enough = read .header .enough in
       (few-avps, numberAt-below 4 c 12 oct (omega arith), numberAt-below 4 c 16 oct (omega arith))
 
-  draft-formed : WellFormed (draftOf c)
+  draft-formed : WellFormed (ownDraft c)
   draft-formed =
       record {
         room = rw record-is (room-all c avps few-avps);
@@ -141,46 +132,47 @@ module _ (c : List ℕ) (oct : AreOctets c) (pass : commandOutcome c ≡ Pass) w
         end-small = rw record-is (numbers-fit .2);
         blank = rw record-is (blank-all c avps few-avps);
         placed-all = rw recorded-is
-            (placed-all dictionary (read .items) 20 (length c) (read .listed .fit) (omega (arith, read .long)));
+            (placed-all dictionary (length c) (read .items) 20 (read .listed .fit) (omega (arith, read .long)));
         tree = rw draft-cells (read .listed .tree);
         sizes = rw draft-cells (read .listed .sizes);
+        names = rw recorded-is (names-all dictionary (read .items) 20 (read .listed .fit));
       }
 
-  draft-octets : draftOctets (draftOf c) ≡ commandOctets (meaningOf c)
+  draft-octets : draftOctets (ownDraft c) ≡ commandOctets (meaningOf c)
   draft-octets = ap commandOctets record-means
 
   -- written anew, the command is accepted, and means the same
-  pub written-accepted : commandOutcome (draftOctets (draftOf c)) ≡ Pass
+  pub written-accepted : commandOutcome (draftOctets (ownDraft c)) ≡ Pass
   written-accepted = ap commandOutcome draft-octets ∙ again-accepted c oct read
 
-  pub written-means : meaningOf (draftOctets (draftOf c)) ≡ meaningOf c
+  pub written-means : meaningOf (draftOctets (ownDraft c)) ≡ meaningOf c
   written-means = ap meaningOf draft-octets ∙ again-means c oct read
 
-  pub written-long : length (draftOctets (draftOf c)) ≡ length c
+  pub written-long : length (draftOctets (ownDraft c)) ≡ length c
   written-long = ap length draft-octets ∙ again-long c oct read
 
   module _ (out : List ℕ) (room : length c ≤ length out) where
-    pub draft-accepted : draftOutcome (draftOf c) (length out) ≡ Pass
+    pub draft-accepted : draftOutcome (ownDraft c) (length out) ≡ Pass
     unfolding draftOutcome
     draft-accepted =
         let l = written-long in
         let within = read .header .within in
         rw (
-          is-well-formed (draftOf c) draft-formed,
-          le-ltb longestCommand (length (draftOctets (draftOf c))) (omega arith),
-          le-ltb (length out) (length (draftOctets (draftOf c))) (omega arith),
+          is-well-formed (ownDraft c) draft-formed,
+          le-ltb longestCommand (length (draftOctets (ownDraft c))) (omega arith),
+          le-ltb (length out) (length (draftOctets (ownDraft c))) (omega arith),
           written-accepted,
         )
 
-    pub draft-written : octetsWritten (draftOf c) (length out) ≡ draftOctets (draftOf c)
+    pub draft-written : octetsWritten (ownDraft c) (length out) ≡ draftOctets (ownDraft c)
     unfolding octetsWritten
     draft-written = rw draft-accepted
 
 -- demand 2, second half: what comes of a command's own record, over its octets, with room for it
 pub record Kept (c out : List ℕ) : Type 0 where
-  pub passes : draftOutcome (draftOf c) (length out) ≡ Pass
-  pub accepts : commandOutcome (octetsWritten (draftOf c) (length out)) ≡ Pass
-  pub means : meaningOf (octetsWritten (draftOf c) (length out)) ≡ meaningOf c
+  pub passes : draftOutcome (ownDraft c) (length out) ≡ Pass
+  pub accepts : commandOutcome (octetsWritten (ownDraft c) (length out)) ≡ Pass
+  pub means : meaningOf (octetsWritten (ownDraft c) (length out)) ≡ meaningOf c
 
 pub round-trip : (c out : List ℕ) → AreOctets c → commandOutcome c ≡ Pass → length c ≤ length out → Kept c out
 round-trip c out oct pass room =

@@ -14,7 +14,7 @@ use Rattle.rules.specs.Avp.{flagsAt, flagV, flagM, flagP, headerOf}
 use Rattle.rules.specs.Dictionary.{Entry}
 use Rattle.rules.specs.Meaning.{Cell}
 use Rattle.rules.specs.Agreement.{fillsOne}
-use Rattle.rules.specs.Writer.{hasVendor, avpHeader}
+use Rattle.rules.specs.Wire.{hasVendor, avpHeader}
 use Rattle.rules.proofs.Fields.{header-least}
 use Rattle.rules.proofs.Walk.{by-cases}
 use Rattle.rules.proofs.demands.items.Items.{Item, cellIn, octetsOf, step, avpsAt, All, Fit}

@@ -7,10 +7,10 @@ use native.Mathlib.Omega.{arith}
 use lib.ListN.{length, length-append}
 use Rattle.rules.specs.Dictionary.{Entry}
 use Rattle.rules.specs.Meaning.{Cell}
-use Rattle.rules.specs.Writer.{hasVendor, ownSize}
+use Rattle.rules.specs.Wire.{hasVendor}
 use Rattle.rules.proofs.Fields.{header-least}
 use Rattle.rules.proofs.Walk.{by-cases}
-use Rattle.rules.proofs.demands.items.Items.{Item, cellIn, octetsOf, Listed}
+use Rattle.rules.proofs.demands.items.Items.{Item, cellIn, octetsOf, ownSize, Listed}
 use Rattle.rules.proofs.demands.items.Trees.{isGroupCell, sizeOf, size-nil, size-cons}
 use Rattle.rules.proofs.demands.items.Lists.{run, tights, size-octets, listed-plain, GroupOf, listed-group}
 

@@ -11,7 +11,7 @@ use Rattle.rules.specs.Octets.{padded}
 use Rattle.rules.specs.Avp.{headerOf, placeOf, endOf}
 use Rattle.rules.specs.Dictionary.{Entry}
 use Rattle.rules.specs.Agreement.{avpLength, filledEnd, fillsOne}
-use Rattle.rules.specs.Writer.{hasVendor}
+use Rattle.rules.specs.Wire.{hasVendor}
 use Rattle.rules.proofs.Octets.{padded-least}
 use Rattle.rules.proofs.Walk.{by-cases}
 use Rattle.rules.proofs.Fields.{padded-header}

@@ -5,8 +5,7 @@ use Prim.Native.Nat.{ℕ, _+_, _-_, _≤_, _<_}
 use native.Mathlib.Omega.{arith}
 use lib.ListN.{length, getD, take, drop, length-drop, List·getD-append}
 use lib.Seq.{length-take-le, getD-take, getD-drop, ext-getD}
-use Rattle.rules.specs.Octets.{AreOctets, number, numberAt}
-use Rattle.rules.specs.Writer.{octets}
+use Rattle.rules.specs.Octets.{AreOctets, number, numberAt, octets}
 use Rattle.rules.proofs.Octets.{numberAt-in}
 use Rattle.rules.proofs.demands.octets.Digits.{octets-numberAt}
 

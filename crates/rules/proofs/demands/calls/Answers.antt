@@ -9,7 +9,8 @@ use Rattle.rules.specs.declared.Outcome.the-variants.{Pass, Refused}
 use Rattle.rules.specs.Command.{commandOutcome, commandVerdict}
 use Rattle.rules.specs.Record.{emptyRecord, recordBy, reading}
 use Rattle.rules.specs.Meaning.{meaningOf}
-use Rattle.rules.specs.Writer.{Draft, draftMeaning, draftOctets, draftOutcome, octetsBy, octetsWritten, writing, outputAfter}
+use Rattle.rules.specs.Draft.{Draft, draftMeaning}
+use Rattle.rules.specs.Writer.{draftOctets, draftOutcome, octetsBy, octetsWritten, writing, outputAfter}
 use Rattle.rules.specs.Calls.{front, rest, allWritten, toldLength}
 use Rattle.rules.proofs.demands.written.Drafts.{draft-meaning}
 use Rattle.rules.proofs.demands.calls.Calls.{length-told, front-long, front-is, accepted}

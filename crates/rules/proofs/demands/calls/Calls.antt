@@ -16,7 +16,9 @@ use Rattle.rules.specs.declared.Outcome.the-variants.{Pass, Refused}
 use Rattle.rules.specs.Header.{lengthField, longestCommand}
 use Rattle.rules.specs.Command.{commandOutcome}
 use Rattle.rules.specs.Meaning.{Meaning, meaningOf}
-use Rattle.rules.specs.Writer.{commandOctets, Draft, draftMeaning, isWellFormed, draftOctets, draftOutcome, octetsBy, octetsWritten, writing, outputAfter}
+use Rattle.rules.specs.Wire.{commandOctets}
+use Rattle.rules.specs.Draft.{Draft, draftMeaning, isWellFormed}
+use Rattle.rules.specs.Writer.{draftOctets, draftOutcome, octetsBy, octetsWritten, writing, outputAfter}
 use Rattle.rules.specs.Calls.{front, rest, allWritten, outputAfterAll, ifAccepted, acceptedDrafts, SameInOrder}
 use Rattle.rules.proofs.Walk.{never}
 use Rattle.rules.proofs.Passed.{not-refused}

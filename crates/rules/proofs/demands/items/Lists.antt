@@ -14,12 +14,12 @@ use Rattle.rules.specs.Avp.{headerOf}
 use Rattle.rules.specs.Dictionary.{Entry}
 use Rattle.rules.specs.Walk.{deepest}
 use Rattle.rules.specs.Meaning.{Cell}
-use Rattle.rules.specs.Writer.{hasVendor, isTree, ownSize, sizeUnder, hasSizes}
-use Rattle.rules.proofs.Octets.{padded-least}
+use Rattle.rules.specs.Wire.{hasVendor}
+use Rattle.rules.specs.Draft.{isTree}
 use Rattle.rules.proofs.Walk.{by-cases}
-use Rattle.rules.proofs.demands.items.Items.{Item, cellIn, octetsOf, step, All, Fit, Listed}
+use Rattle.rules.proofs.demands.items.Items.{Item, cellIn, octetsOf, step, All, Fit, ownSize, sizeUnder, hasSizesUnder, Listed}
 use Rattle.rules.proofs.demands.items.Sequences.{all-append, all-left, all-right, nil-of, octets-nil, length-cons}
-use Rattle.rules.proofs.demands.items.Trees.{Deep, Shallow, deep-over, over-deep, over-less, over-append, over-right, isGroupCell, stands, tree-of, tree-nil, tree-tail, tree-right, sized, sizes-of, sizes-nil, sizeOf, size-nil, size-cons, under-shallow, under-deep, sizes-right, sizes-tail, under-words, size-words}
+use Rattle.rules.proofs.demands.items.Trees.{Deep, Shallow, deep-over, over-deep, over-less, over-append, over-right, isGroupCell, stands, tree-of, tree-nil, tree-tail, tree-right, sized, sizes-of, sizes-nil, own-is, sizeOf, size-nil, size-cons, under-shallow, under-deep, sizes-right, sizes-tail, even-of, size-words}
 
 -- a test does not both hold and fail
 pub not-both : {C : Type 0} (b : Bool) → b ≡ true → b ≡ false → C
@@ -55,22 +55,14 @@ module _ (dict : List Entry) where
   abbrev pub Tight : Item → Type 0
   Tight x = isGroupCell dict (x .cell) ≡ true → padded (x .cell .length) ≡ x .cell .length
 
-  pub tights : (xs : List Item) → hasSizes dict (map cellIn xs) ≡ true → All Tight xs
-  unfolding padded
+  pub tights : (xs : List Item) → hasSizesUnder dict (map cellIn xs) ≡ true → All Tight xs
   tights [] z = tt
   tights (x ∷ xs) z =
       let s = sized dict (x .cell) (map cellIn xs) z in
-      let p = under-words dict (x .cell .depth) (map cellIn xs) in
-      (λ g. omega (arith, s .one g, p .1), tights xs (s .rest))
+      (even-of dict (x .cell) (map cellIn xs) s, tights xs (s .rest))
 
   pub own-step : (x : Item) → Fit dict x → Tight x → step x ≡ ownSize dict (x .cell)
-  unfolding ownSize
-  own-step x f t =
-      let q = f .padding-is in
-      let l = padded-least (x .cell .length) in
-      by-cases (isGroupCell dict (x .cell))
-      (λ g. let c : length (x .cell .octets) ≡ 0 = f .data-is ∙ rw g in let p = t g in rw g (omega arith))
-      (λ g. let c : length (x .cell .octets) ≡ x .cell .length = f .data-is ∙ rw g in rw g (omega arith))
+  own-step x f t = own-is dict (x .cell) _ _ (f .data-is) (f .padding-is) t
 
   pub own-plain : (c : Cell) → isGroupCell dict c ≡ false → ownSize dict c ≡ headerOf (hasVendor c) + padded (c .length)
   unfolding ownSize
@@ -84,7 +76,7 @@ module _ (dict : List Entry) where
       ∙ omega (arith, own-step x (f .0) (t .0), size-octets xs (f .1) (t .1), size-cons dict (x .cell) (map cellIn xs))
 
   -- the octets of a run, before what is no deeper
-  under-run : (xs ys : List Item) (d : ℕ) → All (Fit dict) xs → hasSizes dict (map cellIn xs) ≡ true
+  under-run : (xs ys : List Item) (d : ℕ) → All (Fit dict) xs → hasSizesUnder dict (map cellIn xs) ≡ true
       → Deep d (map cellIn xs) → Shallow d (map cellIn ys)
       → sizeUnder d dict (map cellIn xs ++ map cellIn ys) ≡ length (octetsOf xs)
   under-run xs ys d f z dn up =
@@ -144,10 +136,10 @@ module _ (dict : List Entry) where
       let e : x .cell .depth ≡ d = omega (arith, st .most-is, s .over .0) in
       let z = sized dict (x .cell) cs (s .sizes) in
       let n : isTree (d + 1) dict (ins ++ outs) ≡ true = rw (g, e, q) at (st .rest) in
-      let zz : hasSizes dict (ins ++ outs) ≡ true = rw q at (z .rest) in
+      let zz : hasSizesUnder dict (ins ++ outs) ≡ true = rw q at (z .rest) in
       let fx = all-left (Fit dict) xs ys (s .fit .1) in
       let ov = deep-over d ins dn in
-      let zx : hasSizes dict ins ≡ true =
+      let zx : hasSizesUnder dict ins ≡ true =
       rw append-nil at (sizes-tail dict ins outs [] d (over-less (d + 1) d ins (omega arith) ov) up tt zz
       (sizes-nil dict)) in
       let t = tights (x ∷ (xs ++ ys)) (s .sizes) .0 g in

@@ -8,7 +8,7 @@ use lib.ListN.{length, drop, length-append}
 use Rattle.rules.specs.declared.Avp.{Avp}
 use Rattle.rules.specs.Avp.{headerOf}
 use Rattle.rules.specs.Meaning.{Cell}
-use Rattle.rules.specs.Writer.{hasVendor, avpHeader}
+use Rattle.rules.specs.Wire.{hasVendor, avpHeader}
 use Rattle.rules.proofs.Walk.{by-cases}
 use Rattle.rules.proofs.demands.items.Items.{Item, octetsOf, step, avpOf, avpsAt, All}
 use Rattle.rules.proofs.demands.octets.Numbers.{length-octets, drop-on}

@@ -3,20 +3,22 @@
 use mathlib.Core.Path.{_≡_, refl, sym, _∙_}
 use mathlib.Core.Bool.{Bool, true, false, cond, _&&_}
 use mathlib.Core.List.{List, [], _∷_, _++_}
-use Prim.Native.Nat.{ℕ, _+_, _*_, _/_, _≤_, _<_}
+use Prim.Native.Nat.{ℕ, _+_, _-_, _*_, _/_, _≤_, _<_}
 use native.Mathlib.Nat.{zero-add}
 use native.Mathlib.Omega.{arith}
-use borrow.Author.Tests.{lt-ltb, le-ltb, le-leb, eq-eqb, leb-true, eqb-true}
+use borrow.Author.Tests.{lt-ltb, le-ltb, le-leb, eq-eqb, leb-true, eqb-true, ltb-true, ltb-false}
 use lib.Dec.{ltb, leb, eqb}
 use Rattle.rules.specs.Octets.{padded}
 use Rattle.rules.specs.Avp.{headerOf}
 use Rattle.rules.specs.Dictionary.{Entry}
 use Rattle.rules.specs.Walk.{deepest}
 use Rattle.rules.specs.Meaning.{Cell, isReadGroup}
-use Rattle.rules.specs.Writer.{hasVendor, nextDepth, isTree, ownSize, sizeUnder, hasSizes}
+use Rattle.rules.specs.Wire.{hasVendor}
+use Rattle.rules.specs.Draft.{nextDepth, isTree}
+use Rattle.rules.proofs.Octets.{padded-least}
 use Rattle.rules.proofs.Tests.{and-true}
 use Rattle.rules.proofs.Walk.{by-cases}
-use Rattle.rules.proofs.demands.items.Items.{Over}
+use Rattle.rules.proofs.demands.items.Items.{ownSize, sizeUnder, hasSizesUnder, Over}
 
 -- each cell is deeper than a depth
 abbrev pub Deep : ℕ → List Cell → Type 0
@@ -70,6 +72,11 @@ module _ (dict : List Entry) where
     pub cap : c .depth ≤ deepest
     pub rest : isTree (nextDepth dict c) dict cs ≡ true
 
+  -- none has depth 0
+  tree-zero : (most : ℕ) (c : Cell) (cs : List Cell) → c .depth ≡ 0 → isTree most dict (c ∷ cs) ≡ false
+  unfolding isTree
+  tree-zero most c cs e = rw e
+
   pub stands : (most : ℕ) (c : Cell) (cs : List Cell) → isTree most dict (c ∷ cs) ≡ true → Stands most c cs
   unfolding isTree
   stands most c cs h =
@@ -77,7 +84,15 @@ module _ (dict : List Entry) where
       let a = and-true (leb 1 (c .depth) && leb (c .depth) most && leb (c .depth) deepest) rest h in
       let b = and-true (leb 1 (c .depth) && leb (c .depth) most) (leb (c .depth) deepest) (a .0) in
       let e = and-true (leb 1 (c .depth)) (leb (c .depth) most) (b .0) in
-      record { least = leb-true _ _ (e .0); most-is = leb-true _ _ (e .1); cap = leb-true _ _ (b .1); rest = a .1 }
+      let least : 1 ≤ c .depth =
+      by-cases (ltb 0 (c .depth))
+      (λ k. ltb-true 0 (c .depth) k)
+      (λ k.
+      let n : c .depth ≡ 0 = omega (arith, ltb-false 0 (c .depth) k) in
+      let z : _≡_ {A = Bool} true false = sym h ∙ tree-zero most c cs n in
+      let y : _≡_ {A = ℕ} 0 1 = cc in
+      absurd (omega arith)) in
+      record { least = least; most-is = leb-true _ _ (e .1); cap = leb-true _ _ (b .1); rest = a .1 }
 
   pub tree-of : (most : ℕ) (c : Cell) (cs : List Cell) → Stands most c cs → isTree most dict (c ∷ cs) ≡ true
   unfolding isTree
@@ -126,22 +141,33 @@ module _ (dict : List Entry) where
   -- what the test of lengths says of a first cell
   pub record Sized (c : Cell) (cs : List Cell) : Type 0 where
     pub one : isGroupCell c ≡ true → c .length ≡ sizeUnder (c .depth) dict cs
-    pub rest : hasSizes dict cs ≡ true
+    pub rest : hasSizesUnder dict cs ≡ true
 
-  pub sized : (c : Cell) (cs : List Cell) → hasSizes dict (c ∷ cs) ≡ true → Sized c cs
-  unfolding hasSizes
+  pub sized : (c : Cell) (cs : List Cell) → hasSizesUnder dict (c ∷ cs) ≡ true → Sized c cs
+  unfolding hasSizesUnder
   sized c cs h =
       let a =
-      and-true (cond (isGroupCell c) (eqb (c .length) (sizeUnder (c .depth) dict cs)) true) (hasSizes dict cs) h in
+      and-true (cond (isGroupCell c) (eqb (c .length) (sizeUnder (c .depth) dict cs)) true) (hasSizesUnder dict cs) h in
       record { one = λ g. eqb-true _ _ (rw g at (a .0)); rest = a .1 }
 
-  pub sizes-of : (c : Cell) (cs : List Cell) → Sized c cs → hasSizes dict (c ∷ cs) ≡ true
-  unfolding hasSizes
+  pub sizes-of : (c : Cell) (cs : List Cell) → Sized c cs → hasSizesUnder dict (c ∷ cs) ≡ true
+  unfolding hasSizesUnder
   sizes-of c cs s = by-cases (isGroupCell c) (λ g. simp (g, eq-eqb _ _ (s .one g), s .rest)) (λ g. simp (g, s .rest))
 
-  pub sizes-nil : hasSizes dict [] ≡ true
-  unfolding hasSizes
+  pub sizes-nil : hasSizesUnder dict [] ≡ true
+  unfolding hasSizesUnder
   sizes-nil = refl
+
+  -- an AVP with as much data and padding as its length says has its own size; a read group needs no padding
+  pub own-is : (c : Cell) (size padding : ℕ) → size ≡ cond (isGroupCell c) 0 (c .length)
+      → padding ≡ padded (c .length) - c .length → (isGroupCell c ≡ true → padded (c .length) ≡ c .length)
+      → headerOf (hasVendor c) + (size + padding) ≡ ownSize dict c
+  unfolding ownSize
+  own-is c size padding d q t =
+      let l = padded-least (c .length) in
+      by-cases (isGroupCell c)
+      (λ g. let e : size ≡ 0 = d ∙ rw g in let p = t g in rw g (omega arith))
+      (λ g. let e : size ≡ c .length = d ∙ rw g in rw g (omega arith))
 
   -- the octets of cells
   unfoldable pub sizeOf : List Cell → ℕ
@@ -167,6 +193,11 @@ module _ (dict : List Entry) where
   under-deep [] zs d x = sym (zero-add _)
   under-deep (c ∷ ms) zs d x = let ih = under-deep ms zs d (x .1) in simp (lt-ltb d (c .depth) (x .0)) (omega arith)
 
+  pub under-all : (cs : List Cell) → Deep 0 cs → sizeUnder 0 dict cs ≡ sizeOf cs
+  unfolding sizeUnder sizeOf
+  under-all [] x = refl
+  under-all (c ∷ cs) x = rw (lt-ltb 0 (c .depth) (x .0), under-all cs (x .1))
+
   pub under-most : (d : ℕ) (cs : List Cell) → sizeUnder d dict cs ≤ sizeOf cs
   unfolding sizeUnder sizeOf
   under-most d [] = omega arith
@@ -180,14 +211,14 @@ module _ (dict : List Entry) where
   under-tail [] zs zs′ d h = h
   under-tail (c ∷ ms) zs zs′ d h = rw (under-tail ms zs zs′ d h)
 
-  pub sizes-right : (ms zs : List Cell) → hasSizes dict (ms ++ zs) ≡ true → hasSizes dict zs ≡ true
+  pub sizes-right : (ms zs : List Cell) → hasSizesUnder dict (ms ++ zs) ≡ true → hasSizesUnder dict zs ≡ true
   sizes-right [] zs s = s
   sizes-right (c ∷ ms) zs s = sizes-right ms zs (sized c (ms ++ zs) s .rest)
 
   -- deep cells before another tail
   pub sizes-tail : (ms zs zs′ : List Cell) (d : ℕ) → Over d ms → Shallow d zs → Shallow d zs′
-      → hasSizes dict (ms ++ zs) ≡ true
-      → hasSizes dict zs′ ≡ true → hasSizes dict (ms ++ zs′) ≡ true
+      → hasSizesUnder dict (ms ++ zs) ≡ true
+      → hasSizesUnder dict zs′ ≡ true → hasSizesUnder dict (ms ++ zs′) ≡ true
   sizes-tail [] zs zs′ d x s s′ z z′ = z′
   sizes-tail (c ∷ ms) zs zs′ d x s s′ z z′ =
       let w = sized c (ms ++ zs) z in
@@ -216,6 +247,11 @@ module _ (dict : List Entry) where
       let p = under-words d cs in
       let o = own-words c in
       by-cases (ltb d (c .depth)) (λ h. (o .0 + p .0, rw h (omega (arith, p .1, o .1)))) (λ h. (0, rw h))
+
+  -- a read group needs no padding
+  pub even-of : (c : Cell) (cs : List Cell) → Sized c cs → isGroupCell c ≡ true → padded (c .length) ≡ c .length
+  unfolding padded
+  even-of c cs s g = let p = under-words (c .depth) cs in omega (arith, s .one g, p .1)
 
   pub size-words : (cs : List Cell) → (k : ℕ) × (sizeOf cs ≡ k * 4)
   unfolding sizeOf

@@ -13,12 +13,13 @@ use Rattle.rules.specs.declared.Outcome.the-variants.{Pass, Refused}
 use Rattle.rules.specs.Verdict.{readerNumbers, writerOnlyNumbers, writerNumbers, isAmong, verdictOf}
 use Rattle.rules.specs.Header.{commandFlags, isRequest, headerOutcome}
 use Rattle.rules.specs.Dictionary.{dictionary}
-use Rattle.rules.specs.Walk.{Walked, whole, stopped}
-use Rattle.rules.specs.Command.{commandGrammar, walkOf, listsOutcome, walkedOutcome, commandOutcome, commandVerdict}
-use Rattle.rules.specs.Writer.{Draft, draftOctets, draftOutcome, writing}
+use Rattle.rules.specs.Walk.{Walked, whole, stopped, stopOf}
+use Rattle.rules.specs.Command.{commandGrammar, ownList, walkOf, listsOutcome, walkedOutcome, commandOutcome, commandVerdict}
+use Rattle.rules.specs.Draft.{Draft}
+use Rattle.rules.specs.Writer.{draftOctets, draftOutcome, writing}
 use Rattle.rules.proofs.Tests.{or-right}
 use Rattle.rules.proofs.demands.items.Lists.{not-both}
-use Rattle.rules.proofs.demands.numbering.Refusals.{numberIn, isNumbered, either, both, in-turn, header-numbered, stopOf, walk-numbered}
+use Rattle.rules.proofs.demands.numbering.Refusals.{numberIn, isNumbered, either, both, in-turn, header-numbered, walk-numbered}
 use Rattle.rules.proofs.demands.numbering.ListRefusals.{rows-numbered, exchange-numbered}
 
 lists-numbered : (s : List ℕ) (w : Walked) → isNumbered (stopOf w) ≡ true → isNumbered (walkedOutcome s w) ≡ true
@@ -32,7 +33,7 @@ command-numbered : (s : List ℕ) → isNumbered (commandOutcome s) ≡ true
 unfolding commandOutcome walkOf
 command-numbered s =
     in-turn (headerOutcome s) _ (header-numbered s)
-    (lists-numbered s (walkOf s) (walk-numbered (length s) dictionary s 20 (length s) 1 0))
+    (lists-numbered s (walkOf s) (walk-numbered (length s) dictionary s (ownList s)))
 
 -- what the reader gives, the writer may give
 writers-too : (o : Outcome) → isNumbered o ≡ true → numberIn writerNumbers o ≡ true

@@ -3,9 +3,9 @@
 use mathlib.Core.Path.{_≡_, refl}
 use mathlib.Core.Bool.{Bool, true, false, cond}
 use mathlib.Core.List.{List, [], _∷_}
-use Prim.Native.Nat.{ℕ, zero, suc, _+_}
+use Prim.Native.Nat.{ℕ, zero, suc}
 use borrow.Author.Tests.{ltb-true, ltb-false}
-use lib.Dec.{ltb, leb}
+use lib.Dec.{ltb}
 use lib.ListN.{length}
 use Rattle.rules.specs.declared.Avp.{Avp}
 use Rattle.rules.specs.declared.Outcome.{Outcome}
@@ -15,9 +15,9 @@ use Rattle.rules.specs.declared.Checked.the-variants.{Fault, Plain, Grou
 use Rattle.rules.specs.declared.Definition.{Definition}
 use Rattle.rules.specs.Verdict.{readerNumbers, isAmong, orElse}
 use Rattle.rules.specs.Header.{commandFlags, lengthOutcome, applicationOutcome, flagsOutcome, headerOutcome}
-use Rattle.rules.specs.Avp.{nextAt, avpAt}
+use Rattle.rules.specs.Avp.{avpAt}
 use Rattle.rules.specs.Dictionary.{Entry, defined, isGroup}
-use Rattle.rules.specs.Walk.{mostAvps, framedBy, framing, contents, settled, checked, Walked, whole, stopped, after, andThen, entered, walkAvp, walkList}
+use Rattle.rules.specs.Walk.{Standing, isFull, framing, contents, settled, checked, Walked, whole, stopped, stopOf, after, andThen, inGroup, behind, entered, walkAvp, walkList}
 use Rattle.rules.proofs.Walk.{by-cases, list-none, list-end, list-more}
 
 -- ---- outcomes, and what joins them
@@ -69,23 +69,15 @@ header-numbered s =
 
 -- ---- the walk
 
--- of a check that found a fault, and of a walk that stopped
+-- of a check that found a fault
 abbrev faultOf : Checked → Outcome
 faultOf (Fault v) = Refused v
 faultOf (Plain a) = Pass
 faultOf (Group a) = Pass
 
-abbrev pub stopOf : Walked → Outcome
-stopOf (whole xs) = Pass
-stopOf (stopped xs v) = Refused v
-
-framedBy-numbered : (at left header size vendor code : ℕ) → isNumbered (framedBy at left header size vendor code) ≡ true
-unfolding framedBy numberIn readerNumbers
-framedBy-numbered at left header size vendor code = simp (either, both)
-
 framing-numbered : (s : List ℕ) (at end : ℕ) → isNumbered (framing s at end) ≡ true
 unfolding framing numberIn readerNumbers
-framing-numbered s at end = simp (either, both, framedBy-numbered)
+framing-numbered s at end = simp (either, both)
 
 contents-numbered : (s : List ℕ) (at : ℕ) (a : Avp) (d : Definition) → isNumbered (contents s at a d) ≡ true
 unfolding contents numberIn readerNumbers
@@ -101,14 +93,16 @@ unfolding numberIn readerNumbers
 kind-numbered true a = refl
 kind-numbered false a = refl
 
-checked-numbered : (dict : List Entry) (s : List ℕ) (at end depth : ℕ)
-    → isNumbered (faultOf (checked dict s at end depth)) ≡ true
-unfolding checked
-checked-numbered dict s at end depth =
-    let a = avpAt s at depth in
-    settled-numbered (framing s at end) _ (framing-numbered s at end)
+checked-numbered : (dict : List Entry) (s : List ℕ) (w : Standing) → isNumbered (faultOf (checked dict s w)) ≡ true
+unfolding checked numberIn readerNumbers
+checked-numbered dict s w =
+    let at = w .at in
+    let a = avpAt s at (w .depth) in
+    by-cases (isFull w) (λ k. rw k)
+    (λ k. rw k
+    (settled-numbered (framing s at (w .end)) _ (framing-numbered s at (w .end))
     (settled-numbered (contents s at a (defined dict a)) _ (contents-numbered s at a (defined dict a))
-    (kind-numbered (isGroup (defined dict a)) a))
+    (kind-numbered (isGroup (defined dict a)) a))))
 
 after-numbered : (xs : List Avp) (w : Walked) → isNumbered (stopOf w) ≡ true → isNumbered (stopOf (after xs w)) ≡ true
 after-numbered xs (whole ys) f = f
@@ -120,34 +114,27 @@ and-numbered (whole xs) f g h = after-numbered xs (f (length xs)) (h (length xs)
 and-numbered (stopped xs v) f g h = g
 
 -- every walk of a list is so
-abbrev pub AllNumbered : (ℕ → ℕ → ℕ → ℕ → Walked) → Type 0
-AllNumbered list = (at end depth count : ℕ) → isNumbered (stopOf (list at end depth count)) ≡ true
+abbrev pub AllNumbered : (Standing → Walked) → Type 0
+AllNumbered list = (w : Standing) → isNumbered (stopOf (list w)) ≡ true
 
-entered-numbered : (list : ℕ → ℕ → ℕ → ℕ → Walked) (depth count : ℕ) (c : Checked) → AllNumbered list
-    → isNumbered (faultOf c) ≡ true → isNumbered (stopOf (entered list depth count c)) ≡ true
-entered-numbered list depth count (Fault v) h f = f
-entered-numbered list depth count (Plain a) h f = f
-entered-numbered list depth count (Group a) h f =
-    let inner = list (a .start) (a .start + a .length) (depth + 1) (count + 1) in
-    after-numbered (a ∷ []) inner (h (a .start) (a .start + a .length) (depth + 1) (count + 1))
+entered-numbered : (list : Standing → Walked) (w : Standing) (c : Checked) → AllNumbered list
+    → isNumbered (faultOf c) ≡ true → isNumbered (stopOf (entered list w c)) ≡ true
+entered-numbered list w (Fault v) h f = f
+entered-numbered list w (Plain a) h f = f
+entered-numbered list w (Group a) h f = after-numbered (a ∷ []) (list (inGroup w a)) (h (inGroup w a))
 
-avp-numbered : (list : ℕ → ℕ → ℕ → ℕ → Walked) (dict : List Entry) (s : List ℕ) → AllNumbered list
-    → AllNumbered (walkAvp list dict s)
-unfolding walkAvp numberIn readerNumbers
-avp-numbered list dict s h at end depth count =
-    let c = checked-numbered dict s at end depth in
-    by-cases (leb mostAvps count) (λ k. rw k)
-    (λ k. rw k (entered-numbered list depth count (checked dict s at end depth) h c))
+avp-numbered : (list : Standing → Walked) (dict : List Entry) (s : List ℕ) → AllNumbered list → AllNumbered (walkAvp list dict s)
+unfolding walkAvp
+avp-numbered list dict s h w = entered-numbered list w (checked dict s w) h (checked-numbered dict s w)
 
 pub walk-numbered : (n : ℕ) (dict : List Entry) (s : List ℕ) → AllNumbered (walkList n dict s)
 unfolding numberIn readerNumbers
-walk-numbered zero dict s at end depth count = rw (list-none dict s at end depth count)
-walk-numbered (suc n) dict s at end depth count =
+walk-numbered zero dict s w = rw (list-none dict s w)
+walk-numbered (suc n) dict s w =
     let ih = walk-numbered n dict s in
-    by-cases (ltb at end)
-    (λ h. rw (list-more n dict s at end depth count (ltb-true at end h))
-    (and-numbered (walkAvp (walkList n dict s) dict s at end depth count)
-    (λ k. walkList n dict s (nextAt s at) end depth (count + k))
-    (avp-numbered (walkList n dict s) dict s ih at end depth count)
-    (λ k. ih (nextAt s at) end depth (count + k))))
-    (λ h. rw (list-end (suc n) dict s at end depth count (ltb-false at end h)))
+    by-cases (ltb (w .at) (w .end))
+    (λ h. rw (list-more n dict s w (ltb-true (w .at) (w .end) h))
+    (and-numbered (walkAvp (walkList n dict s) dict s w) (λ k. walkList n dict s (behind s w k))
+    (avp-numbered (walkList n dict s) dict s ih w)
+    (λ k. ih (behind s w k))))
+    (λ h. rw (list-end (suc n) dict s w (ltb-false (w .at) (w .end) h)))

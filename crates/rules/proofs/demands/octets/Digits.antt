@@ -8,8 +8,7 @@ use native.Mathlib.Omega.{arith}
 use lib.ListN.{length, take, drop, getD, length-drop, take-append-drop}
 use lib.Dec.{lit<}
 use lib.Seq.{getD-drop, drop-drop, drop-cons, length-take-le}
-use Rattle.rules.specs.Octets.{AreOctets, number, numberAt}
-use Rattle.rules.specs.Writer.{octets}
+use Rattle.rules.specs.Octets.{AreOctets, number, numberAt, octets}
 use Rattle.rules.proofs.Octets.{numberAt-in}
 
 pub octets-drop : (at : ℕ) (s : List ℕ) → AreOctets s → AreOctets (drop at s)

@@ -8,8 +8,7 @@ use lib.Arith.{mod-mul}
 use lib.Dec.{leb, lit<}
 use lib.ListN.{length, getD, take, drop, length-append, length-drop}
 use lib.Seq.{getD-drop, drop-drop, drop-at, take-at, take-append-le, drop-append-le}
-use Rattle.rules.specs.Octets.{number, numberAt}
-use Rattle.rules.specs.Writer.{octets}
+use Rattle.rules.specs.Octets.{number, numberAt, octets}
 use Rattle.rules.proofs.Octets.{numberAt-in}
 use Rattle.rules.proofs.Walk.{by-cases}
 

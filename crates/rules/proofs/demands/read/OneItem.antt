@@ -10,12 +10,12 @@ use lib.Dec.{eqb, lit<}
 use lib.ListN.{length, take, drop, length-drop}
 use lib.Seq.{length-take-le}
 use Rattle.rules.specs.declared.Outcome.the-variants.{Pass}
-use Rattle.rules.specs.Octets.{AreOctets, numberAt, flag, padded}
+use Rattle.rules.specs.Octets.{AreOctets, numberAt, flag, padded, octets}
 use Rattle.rules.specs.Avp.{codeAt, flagsAt, flagV, flagM, flagP, lengthAt, headerOf, vendorAt, nextAt, avpAt}
 use Rattle.rules.specs.Dictionary.{Entry, defined}
 use Rattle.rules.specs.Walk.{framing, contents}
 use Rattle.rules.specs.Meaning.{Cell, isReadGroup, cellOf}
-use Rattle.rules.specs.Writer.{octets, hasVendor, avpFlags, vendorOctets, avpHeader}
+use Rattle.rules.specs.Wire.{hasVendor, avpFlags, vendorOctets, avpHeader}
 use Rattle.rules.proofs.Octets.{padded-least}
 use Rattle.rules.proofs.Fields.{header-least, padded-header}
 use Rattle.rules.proofs.Walk.{by-cases}

@@ -13,9 +13,9 @@ use Rattle.rules.specs.declared.Outcome.the-variants.{Pass, Refused}
 use Rattle.rules.specs.Octets.{AreOctets, padded}
 use Rattle.rules.specs.Avp.{codeAt, lengthAt, vendorAt, nextAt, avpAt}
 use Rattle.rules.specs.Dictionary.{Entry, defined, isGroup}
-use Rattle.rules.specs.Walk.{framing, contents, Walked, whole, stopped, after, andThen, walkAvp, walkList}
+use Rattle.rules.specs.Walk.{standing, framing, contents, Walked, whole, stopped, after, andThen, walkAvp, walkList}
 use Rattle.rules.specs.Meaning.{isReadGroup}
-use Rattle.rules.specs.Writer.{avpHeader}
+use Rattle.rules.specs.Wire.{avpHeader}
 use Rattle.rules.proofs.Fields.{avpAt-start, avpAt-end, avpAt-depth}
 use Rattle.rules.proofs.Walk.{by-cases, checked-frame, checked-content, checked-group, checked-plain, avp-many, avp-fault, avp-plain, avp-group, list-end, list-more}
 use Rattle.rules.proofs.Passed.{framed, group-is}
@@ -119,7 +119,7 @@ module _ {dict : List Entry} {s : List ℕ} {at end depth : ℕ} (p : Passing di
 abbrev Sound : List Entry → List ℕ → ℕ → Type 0
 Sound dict s n =
     (at end depth count : ℕ) (xs : List Avp) → 1 ≤ depth → depth ≤ 4 → at ≤ end → end ≤ length s → end - at ≤ n
-    → walkList n dict s at end depth count ≡ whole xs → Found dict s at end depth xs
+    → walkList n dict s (standing at end depth count) ≡ whole xs → Found dict s at end depth xs
 
 -- the dictionary's word on the AVP at a place
 defined-at : (dict : List Entry) (s : List ℕ) (at depth : ℕ)
@@ -129,21 +129,21 @@ defined-at dict s at depth = refl
 
 -- the first AVP's own walk, and the walk behind it
 turn : (dict : List Entry) (s : List ℕ) (n at end depth count : ℕ) (xs : List Avp) → at < end
-    → walkList (suc n) dict s at end depth count ≡ whole xs
-    → (w : Walked) → walkAvp (walkList n dict s) dict s at end depth count ≡ w
-    → andThen w (λ k. walkList n dict s (nextAt s at) end depth (count + k)) ≡ whole xs
+    → walkList (suc n) dict s (standing at end depth count) ≡ whole xs
+    → (w : Walked) → walkAvp (walkList n dict s) dict s (standing at end depth count) ≡ w
+    → andThen w (λ k. walkList n dict s (standing (nextAt s at) end depth (count + k))) ≡ whole xs
 turn dict s n at end depth count xs more e w f =
-    ap (λ (v : Walked). andThen v (λ (k : ℕ). walkList n dict s (nextAt s at) end depth (count + k))) (sym f)
-    ∙ sym (list-more n dict s at end depth count more) ∙ e
+    ap (λ (v : Walked). andThen v (λ (k : ℕ). walkList n dict s (standing (nextAt s at) end depth (count + k)))) (sym f)
+    ∙ sym (list-more n dict s (standing at end depth count) more) ∙ e
 
 module _ (dict : List Entry) (s : List ℕ) (oct : AreOctets s) (n : ℕ) (ih : Sound dict s n)
     (at end depth count : ℕ) (xs : List Avp) (low : 1 ≤ depth) (most : depth ≤ 4) (inside : end ≤ length s)
     (enough : end - at ≤ suc n) (more : at < end) (few : count < 256)
-    (e : walkList (suc n) dict s at end depth count ≡ whole xs)
+    (e : walkList (suc n) dict s (standing at end depth count) ≡ whole xs)
   where
     module _ (p : Passing dict s at end depth) where
       -- what is behind the AVP lies in the list, and is shorter
-      on : (ys : List Avp) (k : ℕ) → walkList n dict s (nextAt s at) end depth (count + k) ≡ whole ys
+      on : (ys : List Avp) (k : ℕ) → walkList n dict s (standing (nextAt s at) end depth (count + k)) ≡ whole ys
           → Found dict s (nextAt s at) end depth ys
       on ys k w =
           let f = framed s at end (p .frame) in
@@ -152,8 +152,8 @@ module _ (dict : List Entry) (s : List ℕ) (oct : AreOctets s) (n : ℕ) (ih : 
       sound-plain : isGroup (defined dict (avpAt s at depth)) ≡ false → Found dict s at end depth xs
       sound-plain g =
           let a = avpAt s at depth in
-          let c = checked-plain dict s at end depth (p .frame) a refl (defined dict a) refl (p .pass) g in
-          let w = avp-plain (walkList n dict s) dict s at end depth count few c in
+          let c = checked-plain dict s (standing at end depth count) few (p .frame) a refl (defined dict a) refl (p .pass) g in
+          let w = avp-plain (walkList n dict s) dict s (standing at end depth count) c in
           let i = after-whole (a ∷ []) xs _ (turn dict s n at end depth count xs more e (whole (a ∷ [])) w) in
           plain-found p low most xs (i .0) (on (i .0) 1 (i .1)) (sym (defined-at dict s at depth) ∙ g) (i .2)
 
@@ -161,19 +161,19 @@ module _ (dict : List Entry) (s : List ℕ) (oct : AreOctets s) (n : ℕ) (ih : 
       sound-group g =
           let a = avpAt s at depth in
           let f = framed s at end (p .frame) in
-          let c = checked-group dict s at end depth (p .frame) a refl (defined dict a) refl (p .pass) g in
-          let level : depth < 4 = rw (avpAt-depth s at depth) at (group-is dict s at end depth c .2) in
-          let inner = walkList n dict s (a .start) (a .start + a .length) (depth + 1) (count + 1) in
-          let w = avp-group (walkList n dict s) dict s at end depth count few c in
+          let c = checked-group dict s (standing at end depth count) few (p .frame) a refl (defined dict a) refl (p .pass) g in
+          let level : depth < 4 = rw (avpAt-depth s at depth) at (group-is dict s (standing at end depth count) c .2) in
+          let inner = walkList n dict s (standing (a .start) (a .start + a .length) (depth + 1) (count + 1)) in
+          let w = avp-group (walkList n dict s) dict s (standing at end depth count) c in
           let b = both-whole xs (after (a ∷ []) inner) _
           (turn dict s n at end depth count xs more e (after (a ∷ []) inner) w) in
           let i = after-whole (a ∷ []) (b .0) inner (b .1) in
           let j = after-whole (b .0) xs _ (b .2) in
-          let within : walkList n dict s (at + headerAt s at) (at + lengthAt s at) (depth + 1) (count + 1)
+          let within : walkList n dict s (standing (at + headerAt s at) (at + lengthAt s at) (depth + 1) (count + 1))
           ≡ whole (i .0) =
-          ap (λ (k : ℕ). walkList n dict s k (at + lengthAt s at) (depth + 1) (count + 1))
+          ap (λ (k : ℕ). walkList n dict s (standing k (at + lengthAt s at) (depth + 1) (count + 1)))
           (sym (avpAt-start s at depth))
-          ∙ ap (λ (k : ℕ). walkList n dict s (a .start) k (depth + 1) (count + 1)) (sym (avpAt-end s at depth (f .header)))
+          ∙ ap (λ (k : ℕ). walkList n dict s (standing (a .start) k (depth + 1) (count + 1))) (sym (avpAt-end s at depth (f .header)))
           ∙ i .1 in
           group-found p low most xs (j .0) (on (j .0) (length (b .0)) (j .1)) (i .0)
           (sym (defined-at dict s at depth) ∙ g)
@@ -191,14 +191,14 @@ module _ (dict : List Entry) (s : List ℕ) (oct : AreOctets s) (n : ℕ) (ih : 
         let a = avpAt s at depth in
         never-whole
         (turn dict s n at end depth count xs more e (stopped [] v)
-        (avp-fault (walkList n dict s) dict s at end depth count few
-        (checked-content dict s at end depth frame a refl (defined dict a) refl f)))
+        (avp-fault (walkList n dict s) dict s (standing at end depth count)
+        (checked-content dict s (standing at end depth count) few frame a refl (defined dict a) refl f)))
 
     sound-framing : (o : Outcome) → framing s at end ≡ o → Found dict s at end depth xs
     sound-framing Pass f = sound-contents f (contents s at (avpAt s at depth) (defined dict (avpAt s at depth))) refl
     sound-framing (Refused v) f =
         never-whole (turn dict s n at end depth count xs more e (stopped [] v)
-        (avp-fault (walkList n dict s) dict s at end depth count few (checked-frame dict s at end depth f)))
+        (avp-fault (walkList n dict s) dict s (standing at end depth count) (checked-frame dict s (standing at end depth count) few f)))
 
 sound-step : (dict : List Entry) (s : List ℕ) (n : ℕ) → AreOctets s → Sound dict s n → Sound dict s (suc n)
 sound-step dict s n oct ih at end depth count xs low most order inside enough e =
@@ -207,18 +207,18 @@ sound-step dict s n oct ih at end depth count xs low most order inside enough e 
     let more = ltb-true at end m in
     by-cases (leb 256 count)
     (λ f.
-    let o = avp-many (walkList n dict s) dict s at end depth count (leb-true 256 count f) in
+    let o = avp-many (walkList n dict s) dict s (standing at end depth count) (leb-true 256 count f) in
     never-whole (turn dict s n at end depth count xs more e _ o))
     (λ f.
     sound-framing dict s oct n ih at end depth count xs low most inside enough more (leb-false 256 count f) e
     (framing s at end) refl))
     (λ m.
     let past = ltb-false at end m in
-    found-end dict s at end depth xs order past (sym (list-end (suc n) dict s at end depth count past) ∙ e))
+    found-end dict s at end depth xs order past (sym (list-end (suc n) dict s (standing at end depth count) past) ∙ e))
 
 -- a walk that ends whole found items that make a list
 pub sound : (dict : List Entry) (s : List ℕ) (n : ℕ) → AreOctets s → Sound dict s n
 sound dict s zero oct = λ at end depth count xs low most order inside enough e.
     found-end dict s at end depth xs order (omega arith)
-    (sym (list-end zero dict s at end depth count (omega arith)) ∙ e)
+    (sym (list-end zero dict s (standing at end depth count) (omega arith)) ∙ e)
 sound dict s (suc n) oct = sound-step dict s n oct (sound dict s n oct)

@@ -15,7 +15,7 @@ use Rattle.rules.specs.Avp.{headerOf}
 use Rattle.rules.specs.Dictionary.{Entry}
 use Rattle.rules.specs.Walk.{mostAvps, Walked, whole, stopped, after}
 use Rattle.rules.specs.Meaning.{cellOf}
-use Rattle.rules.specs.Writer.{hasVendor, avpHeader}
+use Rattle.rules.specs.Wire.{hasVendor, avpHeader}
 use Rattle.rules.proofs.Walk.{by-cases}
 use Rattle.rules.proofs.demands.items.Items.{Item, cellIn, octetsOf, step, avpOf, avpsAt, All, Fit, judged}
 use Rattle.rules.proofs.demands.octets.Numbers.{drop-on}

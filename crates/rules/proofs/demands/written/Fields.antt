@@ -1,22 +1,22 @@
 -- One item at a place: the reader finds the fields of its cell there, its framing passes, and the AVP is the item's.
 use mathlib.Core.Path.{_≡_, refl, sym, ap, _∙_}
-use mathlib.Core.Bool.{Bool, true, false, not, _&&_}
+use mathlib.Core.Bool.{false, not}
 use mathlib.Core.List.{List, [], _∷_, _++_, append-assoc}
 use Prim.Native.Nat.{ℕ, _+_, _-_, _≤_}
 use native.Mathlib.Nat.{add-zero}
 use native.Mathlib.Omega.{arith}
-use borrow.Author.Tests.{le-ltb, eqb-true, not-false}
-use lib.Dec.{ltb, eqb}
+use borrow.Author.Tests.{eqb-true, not-false}
+use lib.Dec.{eqb}
 use lib.ListN.{drop}
 use Rattle.rules.specs.declared.Outcome.the-variants.{Pass}
-use Rattle.rules.specs.Octets.{padded}
+use Rattle.rules.specs.Octets.{padded, octets}
 use Rattle.rules.specs.Avp.{codeAt, flagsAt, flagV, flagM, flagP, lengthAt, headerOf, vendorAt, nextAt, avpAt}
 use Rattle.rules.specs.Dictionary.{Entry}
 use Rattle.rules.specs.Walk.{framing}
 use Rattle.rules.specs.Meaning.{Cell}
-use Rattle.rules.specs.Writer.{octets, hasVendor, avpFlags, vendorOctets, avpHeader}
+use Rattle.rules.specs.Wire.{hasVendor, avpFlags, vendorOctets, avpHeader}
 use Rattle.rules.proofs.Fields.{header-least, padded-header}
-use Rattle.rules.proofs.Walk.{by-cases, framedBy-pass}
+use Rattle.rules.proofs.Walk.{by-cases, framing-pass}
 use Rattle.rules.proofs.demands.items.Items.{Item, avpOf, Fit}
 use Rattle.rules.proofs.demands.octets.Flags.{flagsBy, read-flags}
 use Rattle.rules.proofs.demands.octets.Numbers.{length-octets, drop-past, drop-on, octet-at, number-at}
@@ -86,20 +86,13 @@ pub next-found : (s : List ℕ) (at : ℕ) (c : Cell) → HeaderAt s at c
     → nextAt s at ≡ at + (headerOf (hasVendor c) + padded (c .length))
 next-found s at c f = rw (f .length-is, padded-header (hasVendor c) (c .length))
 
--- octets enough for the header are enough with V
-vendor-left : (v : Bool) (left : ℕ) → headerOf v ≤ left → (v && ltb left 12) ≡ false
-vendor-left true left h = le-ltb left 12 h
-vendor-left false left h = refl
-
 -- check 2 passes where the list has room
 pub framing-found : (s : List ℕ) (at end : ℕ) (c : Cell) → HeaderAt s at c
     → headerOf (hasVendor c) + padded (c .length) ≤ end - at → framing s at end ≡ Pass
-unfolding framing
 framing-found s at end c f room =
     let v = flagV (flagsAt s at) in
     let least = header-least (hasVendor c) in
     let header : headerOf v ≤ end - at = rw (f .v-is) (omega arith) in
     let short : headerOf v ≤ lengthAt s at = rw (f .v-is, f .length-is) (omega arith) in
     let fits : padded (lengthAt s at) ≤ end - at = rw (f .length-is, padded-header (hasVendor c) (c .length)) room in
-    rw (le-ltb (end - at) 8 (omega arith), vendor-left v (end - at) header)
-    (framedBy-pass at (end - at) (headerOf v) (lengthAt s at) (vendorAt s at) (codeAt s at) short fits)
+    framing-pass s at end v refl header short fits

@@ -7,7 +7,8 @@ use lib.Dec.{lit<}
 use lib.ListN.{length, drop, length-append}
 use Rattle.rules.specs.Header.{headerSize, version, lengthField, commandFlags, commandCode, application, hopByHop, endToEnd, applicationNt, codeBackgroundDataTransfer, longestCommand}
 use Rattle.rules.specs.Meaning.{Meaning}
-use Rattle.rules.specs.Writer.{octets, listOctets, flagsOctet, commandHeader, commandOctets}
+use Rattle.rules.specs.Octets.{octets}
+use Rattle.rules.specs.Wire.{listOctets, flagsOctet, commandHeader, commandOctets}
 use Rattle.rules.proofs.demands.octets.Flags.{flagsBy, ReadFlags, read-flags}
 use Rattle.rules.proofs.demands.octets.Numbers.{length-octets, drop-on, octet-at, number-at}
 

@@ -15,8 +15,8 @@ use Rattle.rules.specs.Octets.{padded}
 use Rattle.rules.specs.Verdict.{verdict}
 use Rattle.rules.specs.Avp.{headerOf, nextAt, avpAt}
 use Rattle.rules.specs.Dictionary.{Entry}
-use Rattle.rules.specs.Walk.{mostAvps, framing, stopped, after, andThen, walkAvp, walkList}
-use Rattle.rules.specs.Writer.{hasVendor, avpHeader}
+use Rattle.rules.specs.Walk.{standing, mostAvps, framing, stopped, after, andThen, walkAvp, walkList}
+use Rattle.rules.specs.Wire.{hasVendor, avpHeader}
 use Rattle.rules.proofs.Fields.{header-least}
 use Rattle.rules.proofs.Walk.{by-cases, checked-content, checked-group, checked-plain, avp-many, avp-fault, avp-plain, avp-group, list-end, list-more}
 use Rattle.rules.proofs.demands.items.Items.{Item, octetsOf, step, avpOf, Fit, Listed, judged}
@@ -32,7 +32,7 @@ module _ (dict : List Entry) (s : List ℕ) where
   Reads n =
       (xs : List Item) (post : List ℕ) (at end depth count : ℕ) → Listed dict depth xs
       → drop at s ≡ octetsOf xs ++ post → end ≡ at + length (octetsOf xs) → length (octetsOf xs) ≤ n
-      → walkList n dict s at end depth count ≡ judged dict s count at xs
+      → walkList n dict s (standing at end depth count) ≡ judged dict s count at xs
 
   -- ---- one item, and the walk behind it
 
@@ -40,16 +40,16 @@ module _ (dict : List Entry) (s : List ℕ) where
       (depth-is : x .cell .depth ≡ depth) (front : HeaderAt s at (x .cell))
       (room : headerOf (hasVendor (x .cell)) + padded (x .cell .length) ≤ end - at)
     where
-      more : walkList (suc n) dict s at end depth count
-          ≡ andThen (walkAvp (walkList n dict s) dict s at end depth count)
-          (λ k. walkList n dict s (nextAt s at) end depth (count + k))
+      more : walkList (suc n) dict s (standing at end depth count)
+          ≡ andThen (walkAvp (walkList n dict s) dict s (standing at end depth count))
+          (λ k. walkList n dict s (standing (nextAt s at) end depth (count + k)))
       more =
           let h = header-least (hasVendor (x .cell)) in
-          list-more n dict s at end depth count (omega arith)
+          list-more n dict s (standing at end depth count) (omega arith)
 
       item-many : leb mostAvps count ≡ true
-          → walkList (suc n) dict s at end depth count ≡ stopped [] (verdict 7002 at 0 0)
-      item-many m = more ∙ rw (avp-many (walkList n dict s) dict s at end depth count (leb-true 256 count m))
+          → walkList (suc n) dict s (standing at end depth count) ≡ stopped [] (verdict 7002 at 0 0)
+      item-many m = more ∙ rw (avp-many (walkList n dict s) dict s (standing at end depth count) (leb-true 256 count m))
 
       module _ (m : leb mostAvps count ≡ false) where
         few : count < 256
@@ -62,26 +62,26 @@ module _ (dict : List Entry) (s : List ℕ) where
         the-avp = avp-found s at x front ∙ ap (avpAt s at) depth-is
 
         item-refused : {v : Verdict} → contentsOf dict s at x ≡ Refused v
-            → walkList (suc n) dict s at end depth count ≡ stopped [] v
+            → walkList (suc n) dict s (standing at end depth count) ≡ stopped [] v
         item-refused o =
-            more ∙ rw (avp-fault (walkList n dict s) dict s at end depth count few
-            (checked-content dict s at end depth pass (avpOf at x) the-avp _ refl o))
+            more ∙ rw (avp-fault (walkList n dict s) dict s (standing at end depth count)
+            (checked-content dict s (standing at end depth count) few pass (avpOf at x) the-avp _ refl o))
 
         item-plain : contentsOf dict s at x ≡ Pass → isGroupCell dict (x .cell) ≡ false
-            → walkList (suc n) dict s at end depth count
-            ≡ after (avpOf at x ∷ []) (walkList n dict s (nextAt s at) end depth (count + 1))
+            → walkList (suc n) dict s (standing at end depth count)
+            ≡ after (avpOf at x ∷ []) (walkList n dict s (standing (nextAt s at) end depth (count + 1)))
         item-plain o g =
-            more ∙ rw (avp-plain (walkList n dict s) dict s at end depth count few
-            (checked-plain dict s at end depth pass (avpOf at x) the-avp _ refl o g))
+            more ∙ rw (avp-plain (walkList n dict s) dict s (standing at end depth count)
+            (checked-plain dict s (standing at end depth count) few pass (avpOf at x) the-avp _ refl o g))
 
         item-group : contentsOf dict s at x ≡ Pass → isGroupCell dict (x .cell) ≡ true
-            → walkList (suc n) dict s at end depth count
+            → walkList (suc n) dict s (standing at end depth count)
             ≡ andThen (after (avpOf at x ∷ [])
-            (walkList n dict s (avpOf at x .start) (avpOf at x .start + x .cell .length) (depth + 1) (count + 1)))
-            (λ k. walkList n dict s (nextAt s at) end depth (count + k))
+            (walkList n dict s (standing (avpOf at x .start) (avpOf at x .start + x .cell .length) (depth + 1) (count + 1))))
+            (λ k. walkList n dict s (standing (nextAt s at) end depth (count + k)))
         item-group o g =
-            more ∙ rw (avp-group (walkList n dict s) dict s at end depth count few
-            (checked-group dict s at end depth pass (avpOf at x) the-avp _ refl o g))
+            more ∙ rw (avp-group (walkList n dict s) dict s (standing at end depth count)
+            (checked-group dict s (standing at end depth count) few pass (avpOf at x) the-avp _ refl o g))
 
   -- ---- lists
 
@@ -89,7 +89,7 @@ module _ (dict : List Entry) (s : List ℕ) where
       → x .cell .depth ≡ depth → isGroupCell dict (x .cell) ≡ false → Listed dict depth xs
       → drop at s ≡ octetsOf (x ∷ xs) ++ post → end ≡ at + length (octetsOf (x ∷ xs))
       → length (octetsOf (x ∷ xs)) ≤ suc n
-      → walkList (suc n) dict s at end depth count ≡ judged dict s count at (x ∷ xs)
+      → walkList (suc n) dict s (standing at end depth count) ≡ judged dict s count at (x ∷ xs)
   full-plain n ih x xs post at end depth count fit depth-is g listed e to enough =
       let c = x .cell in
       let tail = octetsOf xs ++ post in
@@ -116,7 +116,7 @@ module _ (dict : List Entry) (s : List ℕ) where
       → x .cell .depth ≡ depth → isGroupCell dict (x .cell) ≡ true → GroupOf dict depth x xs ys
       → drop at s ≡ octetsOf (x ∷ (xs ++ ys)) ++ post → end ≡ at + length (octetsOf (x ∷ (xs ++ ys)))
       → length (octetsOf (x ∷ (xs ++ ys))) ≤ suc n
-      → walkList (suc n) dict s at end depth count ≡ judged dict s count at (x ∷ (xs ++ ys))
+      → walkList (suc n) dict s (standing at end depth count) ≡ judged dict s count at (x ∷ (xs ++ ys))
   full-group n ih x xs ys post at end depth count fit depth-is g group e to enough =
       let c = x .cell in
       let h = headerOf (hasVendor c) in
@@ -141,7 +141,7 @@ module _ (dict : List Entry) (s : List ℕ) where
       ih xs tail (at + h) (at + h + c .length) (depth + 1) (count + 1) (group .inner) in-at (rw lg) (omega arith) in
       let both = judged-append dict s (count + 1) (at + h) xs ys in
       let outer : (k : ℕ)
-      → walkList n dict s (at + h + c .length) end depth k ≡ judged dict s k (at + h + c .length) ys =
+      → walkList n dict s (standing (at + h + c .length) end depth k) ≡ judged dict s k (at + h + c .length) ys =
       λ k. ih ys post (at + h + c .length) end depth k (group .outer) on (omega arith) (omega arith) in
       let room : h + padded (c .length) ≤ end - at = omega arith in
       let sh : (k : ℕ) → count + suc k ≡ count + 1 + k = λ k. omega arith in
@@ -160,15 +160,15 @@ module _ (dict : List Entry) (s : List ℕ) where
       → isGroupCell dict (x .cell) ≡ true
       → drop at s ≡ octetsOf (x ∷ (xs ++ ys)) ++ post → end ≡ at + length (octetsOf (x ∷ (xs ++ ys)))
       → length (octetsOf (x ∷ (xs ++ ys))) ≤ suc n
-      → walkList (suc n) dict s at end depth count ≡ judged dict s count at (x ∷ zs)
+      → walkList (suc n) dict s (standing at end depth count) ≡ judged dict s count at (x ∷ zs)
   full-run n ih x zs xs ys is post at end depth count listed group depth-is g e to enough =
       full-group n ih x xs ys post at end depth count (listed .fit .0) depth-is g group e to enough ∙ rw is
 
   full-none : (n : ℕ) (at end depth count : ℕ) → end ≡ at + length (octetsOf [])
-      → walkList n dict s at end depth count ≡ judged dict s count at []
+      → walkList n dict s (standing at end depth count) ≡ judged dict s count at []
   full-none n at end depth count to =
       let z : end ≡ at = to ∙ rw octets-nil (add-zero at) in
-      list-end n dict s at end depth count (omega arith) ∙ sym (judged-nil dict s count at)
+      list-end n dict s (standing at end depth count) (omega arith) ∙ sym (judged-nil dict s count at)
 
   full-zero : Reads zero
   full-zero [] post at end depth count listed e to enough = full-none zero at end depth count to
@@ -197,5 +197,5 @@ module _ (dict : List Entry) (s : List ℕ) where
 pub full : (n : ℕ) (dict : List Entry) (xs : List Item) (s post : List ℕ) (at end depth count : ℕ)
     → Listed dict depth xs
     → drop at s ≡ octetsOf xs ++ post → end ≡ at + length (octetsOf xs) → length (octetsOf xs) ≤ n
-    → walkList n dict s at end depth count ≡ judged dict s count at xs
+    → walkList n dict s (standing at end depth count) ≡ judged dict s count at xs
 full n dict xs s post at end depth count = reads dict s n xs post at end depth count

@@ -12,7 +12,7 @@ use Rattle.rules.specs.Dictionary.{dictionary}
 use Rattle.rules.specs.Walk.{whole, avpsOf}
 use Rattle.rules.specs.Command.{walkOf}
 use Rattle.rules.specs.Meaning.{Cell, Meaning, cellOf, meaningOf}
-use Rattle.rules.specs.Writer.{avpOctets, listOctets, commandOctets}
+use Rattle.rules.specs.Wire.{avpOctets, listOctets, commandOctets}
 use Rattle.rules.proofs.Meanings.{same-fields}
 use Rattle.rules.proofs.demands.items.Items.{Item, cellIn, octetsOf, avpsAt, Listed, judged}
 use Rattle.rules.proofs.demands.items.Sequences.{octets-nil, octets-cons, length-avps}

@@ -1,10 +1,26 @@
 -- `walk::check::check` meets its contract.
 use borrow.Author.Needs.{needs}
-use mathlib.Core.Path.{sym, _∙_}
+use mathlib.Core.Path.{sym, ap, _∙_}
 use native.Mathlib.Omega.{arith}
+use Rattle.rules.specs.declared.Checked.the-variants.{Fault}
+use Rattle.rules.specs.Dictionary.{dictionary}
+use Rattle.rules.specs.Walk.{Standing, standing}
+use Rattle.rules.proofs.Walk.{checked-many}
 use Rattle.walk.proofs.Framing.{holds-framed, holds-checked, broken-checked}
 use Rattle.walk.proofs.check.check.Statement.{statement}
 use Rattle.walk.proofs.check.check.Tie as tie
+
+-- where the walk stands
+abbrev here : tie.Start → Standing
+here st = let a = st .args in standing (a .at) (a .end) (a .depth) (a .count)
+
+fault-requires : tie.Need-fault-requires
+fault-requires c κs = search needs
+
+returns : tie.Need-returns
+returns c =
+    let st = c .before .before .before in
+    ap Fault (c .fault .ensures) ∙ sym (checked-many dictionary (st .args .s .now) (here st) (c .before .if1 .taken))
 
 framed-requires : tie.Need-framed-requires
 framed-requires c κs = search needs
@@ -15,36 +31,36 @@ enum-known-framed c = search needs
 judged-requires : tie.Need-judged-requires
 judged-requires c κs =
     let f = c .before .before .before in
-    let st = f .before .before in
-    let a = st .args in
-    let p = st .pre in
-    let h = holds-framed (a .s .now) (a .at) (a .end) (a .depth) (sym (c .before .framed2 .given .1) ∙ f .framed .ensures) in
-    omega (arith, h, p)
+    let st = f .before .before .before in
+    let h = holds-framed (st .args .s .now) (here st) (sym (c .before .framed2 .given .1) ∙ f .framed .ensures) in
+    omega (arith, h, st .pre)
 
 enum-known-framed-2 : tie.Need-enum-known-framed-2
 enum-known-framed-2 c = search needs
 
-returns : tie.Need-returns
-returns c =
-    let h = c .before .before in
-    let f = h .before .before in
-    let a = f .before .before .args in
-    c .judged .ensures
-    ∙ sym (holds-checked (a .s .now) (a .at) (a .end) (a .depth) (sym (h .framed2 .given .1) ∙ f .framed .ensures))
-
 returns-2 : tie.Need-returns-2
 returns-2 c =
+    let h = c .before .before in
+    let f = h .before .before in
+    let st = f .before .before .before in
+    c .judged .ensures
+    ∙ sym (holds-checked (st .args .s .now) (here st) (f .before .if1 .left) (sym (h .framed2 .given .1) ∙ f .framed .ensures))
+
+returns-3 : tie.Need-returns-3
+returns-3 c =
     let f = c .before .before .before in
-    let a = f .before .before .args in
-    sym (broken-checked (a .s .now) (a .at) (a .end) (a .depth) (sym (c .before .framed3 .given .1) ∙ f .framed .ensures))
+    let st = f .before .before .before in
+    sym (broken-checked (st .args .s .now) (here st) (f .before .if1 .left) (sym (c .before .framed3 .given .1) ∙ f .framed .ensures))
 
 pub check-spec : {M : Type 1} → statement M
 check-spec =
     tie.close
     (tie.spec
+    fault-requires
+    returns
     framed-requires
     enum-known-framed
     judged-requires
     enum-known-framed-2
-    returns
-    returns-2)
+    returns-2
+    returns-3)
