@@ -29,7 +29,8 @@ pub record WroteMeaning (d : Draft) (out : List ℕ) : Type 0 where
   pub means : meaningOf (front d out) ≡ draftMeaning d
   pub long : length (front d out) ≡ writing d out .length
 
--- the draft of a command's own record is accepted; what the call wrote is an accepted command with the command's meaning, and as long
+-- the draft of a command's own record over its octets is accepted; what the call wrote is an accepted command with the
+-- command's meaning, and as long
 pub record Rewritten (c out : List ℕ) : Type 0 where
   pub call : AcceptedWrite (ownDraft c) out
   pub again : AcceptedCommand (front (ownDraft c) out)

@@ -167,18 +167,3 @@ module _ (c : List ℕ) (oct : AreOctets c) (pass : commandOutcome c ≡ Pass) w
     pub draft-written : octetsWritten (ownDraft c) (length out) ≡ draftOctets (ownDraft c)
     unfolding octetsWritten
     draft-written = rw draft-accepted
-
--- demand 2, second half: what comes of a command's own record, over its octets, with room for it
-pub record Kept (c out : List ℕ) : Type 0 where
-  pub passes : draftOutcome (ownDraft c) (length out) ≡ Pass
-  pub accepts : commandOutcome (octetsWritten (ownDraft c) (length out)) ≡ Pass
-  pub means : meaningOf (octetsWritten (ownDraft c) (length out)) ≡ meaningOf c
-
-pub round-trip : (c out : List ℕ) → AreOctets c → commandOutcome c ≡ Pass → length c ≤ length out → Kept c out
-round-trip c out oct pass room =
-    let w = draft-written c oct pass out room in
-    record {
-      passes = draft-accepted c oct pass out room;
-      accepts = ap commandOutcome w ∙ written-accepted c oct pass;
-      means = ap meaningOf w ∙ written-means c oct pass;
-    }
