@@ -1,5 +1,5 @@
 -- Laws of octets put into an output: whether they have room, and how many octets a number has.
-use mathlib.Core.Path.{_≡_, refl}
+use mathlib.Core.Path.{_≡_, refl, sym, _∙_}
 use mathlib.Core.List.{List}
 use Prim.Native.Nat.{ℕ, _+_, _≤_, _<_}
 use borrow.Author.Tests.{le-leb, lt-leb}
@@ -17,10 +17,6 @@ unfolding octets
 octets-four n = refl
 
 module _ (out : List ℕ) (at : ℕ) (xs : List ℕ) where
-  pub put-room : at + length xs ≤ length out → putAt out at xs ≡ sets out at xs
-  unfolding putAt
-  put-room h = rw (le-leb (at + length xs) (length out) h)
-
   module _ (count : ℕ) (long : length xs ≡ count) where
     pub put-none : length out < at + count → out ≡ putAt out at xs
     unfolding putAt
@@ -29,3 +25,7 @@ module _ (out : List ℕ) (at : ℕ) (xs : List ℕ) where
     pub put-all : at + count ≤ length out → sets out at xs ≡ putAt out at xs
     unfolding putAt
     put-all h = rw (long, le-leb (at + count) (length out) h)
+
+    -- what a caller that sees to the room takes from a promise
+    pub put-fits : at + count ≤ length out → (after : List ℕ) → after ≡ putAt out at xs → after ≡ sets out at xs
+    put-fits h after e = e ∙ sym (put-all h)
