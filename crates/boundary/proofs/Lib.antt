@@ -1,3 +1,2 @@
--- The laws of the data and the search of the record that numbers stand for, and of the writer's two cases.
+-- The laws of the data and the search of the record that numbers stand for.
 mod Parts
-mod Writes

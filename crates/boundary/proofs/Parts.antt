@@ -8,46 +8,47 @@ use borrow.Author.Tests.{lt-ltb, le-ltb, le-leb, lt-leb}
 use lib.Dec.{eqb}
 use lib.ListN.{length, take, drop}
 use Rattle.rules.specs.declared.Avp.{Avp}
+use Rattle.rules.specs.Walk.{mostAvps}
 use Rattle.rules.specs.Avp.{named}
 use Rattle.rules.specs.Search.{avpIn}
 use Rattle.reader.proofs.Places.{data-unused, data-outside, data-inside, searchLeft, search-all, search-end, search-here, search-later}
-use Rattle.numbers.specs.Numbers.{avpAt, countOf, recordOf}
+use Rattle.numbers.specs.Numbers.{numberedAvp, numberedCount, numberedRecord}
 use Rattle.boundary.specs.Parts.{part, noPart, partAt, IsData, positionOf, searchNumbers}
 use Rattle.numbers.proofs.Numbers.{avps-full, avp-in, count-in}
 
 module _ (numbers : List ℕ) (i : ℕ) (s : List ℕ) where
-  pub part-unused : min (countOf numbers) 256 ≤ i → IsData numbers i s noPart
+  pub part-unused : min (numberedCount numbers) mostAvps ≤ i → IsData numbers i s noPart
   unfolding partAt
   part-unused h =
-      let k : min (recordOf numbers .count) 256 ≤ i = rw (count-in numbers) h in
-      record { is = rw (le-ltb i (min (countOf numbers) 256) h); octets = sym (data-unused (recordOf numbers) i s k) }
+      let k : min (numberedRecord numbers .count) mostAvps ≤ i = rw (count-in numbers) h in
+      record { is = rw (le-ltb i (min (numberedCount numbers) mostAvps) h); octets = sym (data-unused (numberedRecord numbers) i s k) }
 
-  module _ (used : i < min (countOf numbers) 256) where
-    in-record : i < min (recordOf numbers .count) 256
+  module _ (used : i < min (numberedCount numbers) mostAvps) where
+    in-record : i < min (numberedRecord numbers .count) mostAvps
     in-record = rw (count-in numbers) used
 
-    module _ (a : Avp) (is : a ≡ avpAt numbers i) where
-      avp-here : avpIn (recordOf numbers .avps) i ≡ a
+    module _ (a : Avp) (is : a ≡ numberedAvp numbers i) where
+      avp-here : avpIn (numberedRecord numbers .avps) i ≡ a
       avp-here = avp-in numbers i (omega arith) ∙ sym is
 
       pub part-outside : length s < a .start + a .length → IsData numbers i s noPart
       unfolding partAt
       part-outside h =
-          let k : length s < avpIn (recordOf numbers .avps) i .start + avpIn (recordOf numbers .avps) i .length = rw avp-here h in
+          let k : length s < avpIn (numberedRecord numbers .avps) i .start + avpIn (numberedRecord numbers .avps) i .length = rw avp-here h in
           record {
-            is = rw (lt-ltb i (min (countOf numbers) 256) used, ← is, lt-leb (a .start + a .length) (length s) h);
-            octets = sym (data-outside (recordOf numbers) i s in-record k);
+            is = rw (lt-ltb i (min (numberedCount numbers) mostAvps) used, ← is, lt-leb (a .start + a .length) (length s) h);
+            octets = sym (data-outside (numberedRecord numbers) i s in-record k);
           }
 
       pub part-inside : a .start + a .length ≤ length s → IsData numbers i s (part (a .start) (a .length))
       unfolding partAt
       part-inside h =
-          let k : avpIn (recordOf numbers .avps) i .start + avpIn (recordOf numbers .avps) i .length ≤ length s = rw avp-here h in
+          let k : avpIn (numberedRecord numbers .avps) i .start + avpIn (numberedRecord numbers .avps) i .length ≤ length s = rw avp-here h in
           record {
-            is = rw (lt-ltb i (min (countOf numbers) 256) used, ← is, le-leb (a .start + a .length) (length s) h);
+            is = rw (lt-ltb i (min (numberedCount numbers) mostAvps) used, ← is, le-leb (a .start + a .length) (length s) h);
             octets =
                 ap (λ (x : Avp). take (x .length) (drop (x .start) s)) (sym avp-here)
-                ∙ sym (data-inside (recordOf numbers) i s in-record k);
+                ∙ sym (data-inside (numberedRecord numbers) i s in-record k);
           }
 
 -- ---- a search place by place
@@ -55,26 +56,26 @@ module _ (numbers : List ℕ) (i : ℕ) (s : List ℕ) where
 module _ (numbers : List ℕ) (vendor code : ℕ) where
   -- what is left of the search at place i
   abbrev pub positionLeft : ℕ → ℕ
-  positionLeft i = positionOf (searchLeft (recordOf numbers) (avps-full numbers) vendor code i)
+  positionLeft i = positionOf (searchLeft (numberedRecord numbers) (avps-full numbers) vendor code i)
 
   pub position-all : positionLeft 0 ≡ searchNumbers numbers vendor code
   unfolding searchNumbers
-  position-all = ap positionOf (search-all (recordOf numbers) (avps-full numbers) vendor code)
+  position-all = ap positionOf (search-all (numberedRecord numbers) (avps-full numbers) vendor code)
 
-  pub position-end : (i : ℕ) → min (countOf numbers) 256 ≤ i → positionLeft i ≡ 256
+  pub position-end : (i : ℕ) → min (numberedCount numbers) mostAvps ≤ i → positionLeft i ≡ mostAvps
   position-end i h =
-      let k : min (recordOf numbers .count) 256 ≤ i = rw (count-in numbers) h in
-      ap positionOf (search-end (recordOf numbers) (avps-full numbers) vendor code i k)
+      let k : min (numberedRecord numbers .count) mostAvps ≤ i = rw (count-in numbers) h in
+      ap positionOf (search-end (numberedRecord numbers) (avps-full numbers) vendor code i k)
 
-  module _ (i : ℕ) (used : i < min (countOf numbers) 256) (a : Avp) (is : a ≡ avpAt numbers i) where
+  module _ (i : ℕ) (used : i < min (numberedCount numbers) mostAvps) (a : Avp) (is : a ≡ numberedAvp numbers i) where
     pub position-here : (eqb (a .depth) 1 && named a vendor code) ≡ true → positionLeft i ≡ i
     position-here e =
-        let k : (eqb (avpIn (recordOf numbers .avps) i .depth) 1 && named (avpIn (recordOf numbers .avps) i) vendor code) ≡ true =
+        let k : (eqb (avpIn (numberedRecord numbers .avps) i .depth) 1 && named (avpIn (numberedRecord numbers .avps) i) vendor code) ≡ true =
         ap (λ (x : Avp). eqb (x .depth) 1 && named x vendor code) (avp-here numbers i [] used a is) ∙ e in
-        ap positionOf (search-here (recordOf numbers) (avps-full numbers) vendor code i (in-record numbers i [] used) k)
+        ap positionOf (search-here (numberedRecord numbers) (avps-full numbers) vendor code i (in-record numbers i [] used) k)
 
     pub position-later : (eqb (a .depth) 1 && named a vendor code) ≡ false → positionLeft i ≡ positionLeft (i + 1)
     position-later e =
-        let k : (eqb (avpIn (recordOf numbers .avps) i .depth) 1 && named (avpIn (recordOf numbers .avps) i) vendor code) ≡ false =
+        let k : (eqb (avpIn (numberedRecord numbers .avps) i .depth) 1 && named (avpIn (numberedRecord numbers .avps) i) vendor code) ≡ false =
         ap (λ (x : Avp). eqb (x .depth) 1 && named x vendor code) (avp-here numbers i [] used a is) ∙ e in
-        ap positionOf (search-later (recordOf numbers) (avps-full numbers) vendor code i (in-record numbers i [] used) k)
+        ap positionOf (search-later (numberedRecord numbers) (avps-full numbers) vendor code i (in-record numbers i [] used) k)

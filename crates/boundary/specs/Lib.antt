@@ -1,3 +1,2 @@
--- What is read from a record as numbers, and what is written of it.
+-- What is read from a record as numbers.
 pub mod Parts
-pub mod Writes

@@ -15,7 +15,9 @@ use Rattle.rules.specs.declared.Outcome.the-variants.{Refused}
 use Rattle.rules.specs.Walk.{mostAvps}
 use Rattle.rules.specs.Command.{commandOutcome, commandVerdict}
 use Rattle.rules.specs.Record.{reading, dataAt, searchRecord}
-use Rattle.numbers.specs.Numbers.{numbersOf, avpAt, countOf, recordOf}
+use Rattle.rules.specs.Draft.{draftOf}
+use Rattle.numbers.specs.Numbers.{numbersOf, recordNumbers, numberedAvp, numberedCount, numberedRecord}
+use Rattle.numbers.specs.Draft.{numberedDraft}
 use Rattle.boundary.specs.declared.Part.{Part}
 
 abbrev pub part : ℕ → ℕ → Part
@@ -30,12 +32,12 @@ partOf a size = cond (leb (a .start + a .length) size) (part (a .start) (a .leng
 
 -- the part for a position, none where it is unused; a count above 256 is read as 256
 unfoldable pub partAt : List ℕ → ℕ → ℕ → Part
-partAt numbers i size = cond (ltb i (min (countOf numbers) mostAvps)) (partOf (avpAt numbers i) size) noPart
+partAt numbers i size = cond (ltb i (min (numberedCount numbers) mostAvps)) (partOf (numberedAvp numbers i) size) noPart
 
 -- what `talazumir_data` gives: the part, whose octets are the data of that position of the record
 pub record IsData (numbers : List ℕ) (i : ℕ) (s : List ℕ) (r : Part) : Type 0 where
   pub is : r ≡ partAt numbers i (length s)
-  pub octets : take (r .length) (drop (r .start) s) ≡ dataAt (recordOf numbers) i s
+  pub octets : take (r .length) (drop (r .start) s) ≡ dataAt (numberedRecord numbers) i s
 
 -- a position, 256 for none
 abbrev pub positionOf : Found → ℕ
@@ -44,11 +46,13 @@ positionOf Nothing = mostAvps
 
 -- what `talazumir_search` gives
 unfoldable pub searchNumbers : List ℕ → ℕ → ℕ → ℕ
-searchNumbers numbers vendor code = positionOf (searchRecord (recordOf numbers) vendor code)
+searchNumbers numbers vendor code = positionOf (searchRecord (numberedRecord numbers) vendor code)
 
--- what `talazumir_read` gives: the verdict, and the record as numbers, which stand for that record; all 0 with a refusal
+-- what `talazumir_read` gives: the verdict, and the record as numbers, all 0 with a refusal. They stand for that record, and
+-- over any octets for its draft
 pub record IsRead (s : List ℕ) (r : Verdict) (numbers : List ℕ) : Type 0 where
   pub verdict : r ≡ commandVerdict s
   pub recorded : numbers ≡ numbersOf (reading s .«record»)
-  pub stands : recordOf numbers ≡ reading s .«record»
-  pub zero : (v : Verdict) → commandOutcome s ≡ Refused v → numbers ≡ replicate 1799 0
+  pub stands : numberedRecord numbers ≡ reading s .«record»
+  pub draft : (octets : List ℕ) → numberedDraft numbers octets ≡ draftOf (reading s .«record») octets
+  pub zero : (v : Verdict) → commandOutcome s ≡ Refused v → numbers ≡ replicate recordNumbers 0

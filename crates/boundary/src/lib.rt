@@ -3,8 +3,9 @@
 // include/talazumir.h says the same in C's terms.
 ghost use mathlib.Core.Path.{_≡_};
 ghost use Rattle.reader.specs.Promise.{Judged};
+ghost use Rattle.numbers.specs.Draft.{numberedDraft};
+ghost use Rattle.writer.specs.Promise.{IsWritten};
 ghost use Rattle.boundary.specs.Parts.{IsRead, IsData, searchNumbers};
-ghost use Rattle.boundary.specs.Writes.{IsWrittenFrom};
 use rules::Verdict;
 use rules::Written;
 use rules::limits;
@@ -79,20 +80,17 @@ pub extern "C" fn talazumir_search(
         }
         i += 1;
     }
-    256
+    limits::MOST_AVPS as u32
 }
 
-// Writes the draft whose record the numbers stand for; a flag that is neither 0 nor 1 is 7006.
+// Writes the draft that the numbers and the octets stand for; a flag that is neither 0 nor 1 is 7006.
 #[no_mangle]
 pub extern "C" fn talazumir_write(
     numbers: &[u32; limits::RECORD_NUMBERS],
     s: &[u8],
     out: &mut [u8],
 ) -> Written
-    ensures { λ r. ⌜ IsWrittenFrom (now (numbers .entry)) (now (s .entry)) (now (out .entry)) r (now (out .exit)) ⌝ }
+    ensures { λ r. ⌜ IsWritten (numberedDraft (now (numbers .entry)) (now (s .entry))) (now (out .entry)) r (now (out .exit)) ⌝ }
 {
-    if !numbers::flags_fit(numbers) {
-        return writer::refusal(7006);
-    }
     writer::write_numbers(numbers, s, out)
 }

@@ -1,3 +1,5 @@
--- The laws of a record as numbers, and of its flags.
+-- The laws of a record as numbers, position by position, of its flags, and of the draft that numbers and octets stand for.
 pub mod Numbers
+pub mod Positions
 mod Flags
+pub mod Draft

@@ -1,11 +1,12 @@
 -- 01, The record and the writer: a flag that fits its place on the wire is 0 or 1. R, P, E and T, and M and P of each of
 -- the 256 positions, used or not.
-use Prim.Native.Nat.{ℕ, zero, suc, _+_, _*_}
+use Prim.Native.Nat.{ℕ, zero, suc, _+_}
 use mathlib.Core.List.{List}
 use mathlib.Core.Bool.{Bool, true, _&&_}
 use lib.ListN.{getD}
 use lib.Dec.{leb}
 use Rattle.rules.specs.Walk.{mostAvps}
+use Rattle.numbers.specs.Numbers.{numberedPlace}
 
 abbrev pub isFlag : ℕ → Bool
 isFlag n = leb n 1
@@ -15,7 +16,7 @@ headFlagsFit numbers =
     isFlag (getD numbers 0 0) && isFlag (getD numbers 1 0) && isFlag (getD numbers 2 0) && isFlag (getD numbers 3 0)
 
 unfoldable pub avpFlagsFit : List ℕ → ℕ → Bool
-avpFlagsFit numbers i = isFlag (getD numbers (i * 7 + 7 + 3) 0) && isFlag (getD numbers (i * 7 + 7 + 4) 0)
+avpFlagsFit numbers i = isFlag (getD numbers (numberedPlace i + 3) 0) && isFlag (getD numbers (numberedPlace i + 4) 0)
 
 -- those of the next n positions from one on
 unfoldable pub flagsFitFrom : List ℕ → ℕ → ℕ → Bool

@@ -1,3 +1,4 @@
--- A record as numbers, and whether its flags are flags.
+-- A record as numbers, whether its flags are flags, and the draft that numbers and octets stand for.
 pub mod Numbers
 pub mod Flags
+pub mod Draft

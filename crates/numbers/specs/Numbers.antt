@@ -7,6 +7,7 @@ use lib.Dec.{eqb}
 use Rattle.rules.specs.declared.Avp.{Avp}
 use Rattle.rules.specs.declared.Record.{Record}
 use Rattle.rules.specs.Walk.{mostAvps}
+use Rattle.rules.specs.Record.{recorded}
 use Rattle.log.specs.Log.{bit}
 use Rattle.numbers.specs.declared.Head.{Head}
 
@@ -24,9 +25,17 @@ avpsNumbers (a ∷ xs) = avpNumbers a ++ avpsNumbers xs
 unfoldable pub numbersOf : Record → List ℕ
 numbersOf r = headNumbers r ++ avpsNumbers (r .avps)
 
+-- seven numbers of the command and of each position
+abbrev pub recordNumbers : ℕ
+recordNumbers = 7 + mostAvps * 7
+
+-- where the numbers of a position stand
+abbrev pub numberedPlace : ℕ → ℕ
+numberedPlace i = i * 7 + 7
+
 -- the AVP of seven numbers from a place on; a flag is set exactly where its number is 1
-abbrev pub avpFrom : List ℕ → ℕ → Avp
-avpFrom numbers at = record {
+abbrev pub numberedAvpFrom : List ℕ → ℕ → Avp
+numberedAvpFrom numbers at = record {
   depth = getD numbers at 0;
   vendor = getD numbers (at + 1) 0;
   code = getD numbers (at + 2) 0;
@@ -37,36 +46,40 @@ avpFrom numbers at = record {
 }
 
 -- the AVP at a position
-unfoldable pub avpAt : List ℕ → ℕ → Avp
-avpAt numbers i = avpFrom numbers (i * 7 + 7)
+unfoldable pub numberedAvp : List ℕ → ℕ → Avp
+numberedAvp numbers i = numberedAvpFrom numbers (numberedPlace i)
 
 -- the next n AVPs from a position on
-unfoldable pub avpsFrom : List ℕ → ℕ → ℕ → List Avp
-avpsFrom numbers i zero = []
-avpsFrom numbers i (suc n) = avpAt numbers i ∷ avpsFrom numbers (i + 1) n
+unfoldable pub numberedAvps : List ℕ → ℕ → ℕ → List Avp
+numberedAvps numbers i zero = []
+numberedAvps numbers i (suc n) = numberedAvp numbers i ∷ numberedAvps numbers (i + 1) n
 
-abbrev pub countOf : List ℕ → ℕ
-countOf numbers = getD numbers 6 0
+abbrev pub numberedCount : List ℕ → ℕ
+numberedCount numbers = getD numbers 6 0
 
-unfoldable pub recordOf : List ℕ → Record
-recordOf numbers = record {
+unfoldable pub numberedRecord : List ℕ → Record
+numberedRecord numbers = record {
   r = eqb (getD numbers 0 0) 1;
   p = eqb (getD numbers 1 0) 1;
   e = eqb (getD numbers 2 0) 1;
   t = eqb (getD numbers 3 0) 1;
   «hop_by_hop» = getD numbers 4 0;
   «end_to_end» = getD numbers 5 0;
-  count = countOf numbers;
-  avps = avpsFrom numbers 0 mostAvps;
+  count = numberedCount numbers;
+  avps = numberedAvps numbers 0 mostAvps;
 }
 
--- the command's part of a record
-abbrev pub headOf : Record → Head
-headOf r = record {
-  r = r .r;
-  p = r .p;
-  e = r .e;
-  t = r .t;
-  «hop_by_hop» = r .«hop_by_hop»;
-  «end_to_end» = r .«end_to_end»;
+-- the AVPs in use; a count above 256 is read as 256
+abbrev pub numberedUsed : List ℕ → List Avp
+numberedUsed numbers = recorded (numberedRecord numbers)
+
+-- the command's part of that record
+abbrev pub numberedHead : List ℕ → Head
+numberedHead numbers = record {
+  r = numberedRecord numbers .r;
+  p = numberedRecord numbers .p;
+  e = numberedRecord numbers .e;
+  t = numberedRecord numbers .t;
+  «hop_by_hop» = numberedRecord numbers .«hop_by_hop»;
+  «end_to_end» = numberedRecord numbers .«end_to_end»;
 }

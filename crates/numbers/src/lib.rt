@@ -1,9 +1,10 @@
 // A record as numbers in a lent array: written whole, and read place by place, so that no record is made to read one AVP.
 ghost use mathlib.Core.Path.{_≡_};
-ghost use Prim.Native.Nat.{ℕ, _+_, _*_, _^_, _<_, min};
-ghost use lib.ListN.{length, getD};
+ghost use Prim.Native.Nat.{_<_, min};
+ghost use lib.ListN.{length};
 ghost use lib.Seq.{sets};
-ghost use Rattle.numbers.specs.Numbers.{headNumbers, avpNumbers, numbersOf, avpAt, countOf, recordOf, headOf};
+ghost use Rattle.rules.specs.Walk.{mostAvps};
+ghost use Rattle.numbers.specs.Numbers.{headNumbers, avpNumbers, numbersOf, recordNumbers, numberedPlace, numberedAvp, numberedCount, numberedHead};
 ghost use Rattle.numbers.specs.Flags.{headFlagsFit, avpFlagsFit, flagsFit};
 use rules::Avp;
 use rules::Record;
@@ -19,11 +20,17 @@ pub struct Head {
     pub end_to_end: u32,
 }
 
+fn slice_size(numbers: &[u32]) -> usize
+    ensures { λ r. ⌜ r ≡ length (now (numbers .entry)) ⌝ }
+{
+    numbers.len()
+}
+
 // A proof takes from here that what the array holds is as long as its type says.
 fn size(numbers: &[u32; limits::RECORD_NUMBERS]) -> usize
-    ensures { λ r. ⌜ (r ≡ 1799) × (length (now (numbers .entry)) ≡ 1799) ⌝ }
+    ensures { λ r. ⌜ (r ≡ recordNumbers) × (length (now (numbers .entry)) ≡ recordNumbers) ⌝ }
 {
-    log::length(numbers)
+    slice_size(numbers)
 }
 
 fn put_head(numbers: &mut [u32; limits::RECORD_NUMBERS], record: Record)
@@ -39,10 +46,10 @@ fn put_head(numbers: &mut [u32; limits::RECORD_NUMBERS], record: Record)
 }
 
 fn put_avp(numbers: &mut [u32; limits::RECORD_NUMBERS], position: usize, a: Avp)
-    requires { ⌜ position < 256 ⌝ }
-    ensures { λ _. ⌜ now (numbers .exit) ≡ sets (now (numbers .entry)) (position * 7 + 7) (avpNumbers a) ⌝ }
+    requires { ⌜ position < mostAvps ⌝ }
+    ensures { λ _. ⌜ now (numbers .exit) ≡ sets (now (numbers .entry)) (numberedPlace position) (avpNumbers a) ⌝ }
 {
-    let at = position * 7 + 7;
+    let at = position * limits::AVP_NUMBERS + limits::HEAD_NUMBERS;
     numbers[at] = a.depth;
     numbers[at + 1] = a.vendor;
     numbers[at + 2] = a.code;
@@ -72,27 +79,27 @@ fn wide(x: u32) -> usize
 
 // The count as it stands.
 pub fn count(numbers: &[u32; limits::RECORD_NUMBERS]) -> usize
-    ensures { λ r. ⌜ r ≡ countOf (now (numbers .entry)) ⌝ }
+    ensures { λ r. ⌜ r ≡ numberedCount (now (numbers .entry)) ⌝ }
 {
     wide(numbers[6])
 }
 
 // How many positions are used; a count above 256 is read as 256.
 pub fn used(numbers: &[u32; limits::RECORD_NUMBERS]) -> usize
-    ensures { λ r. ⌜ r ≡ min (countOf (now (numbers .entry))) 256 ⌝ }
+    ensures { λ r. ⌜ r ≡ min (numberedCount (now (numbers .entry))) mostAvps ⌝ }
 {
     log::used(count(numbers))
 }
 
 // The AVP at a position, the blank one from 256 on.
 pub fn get(numbers: &[u32; limits::RECORD_NUMBERS], position: usize) -> Avp
-    ensures { λ r. ⌜ r ≡ avpAt (now (numbers .entry)) position ⌝ }
+    ensures { λ r. ⌜ r ≡ numberedAvp (now (numbers .entry)) position ⌝ }
 {
     size(numbers);
     if limits::MOST_AVPS <= position {
         return avp::blank();
     }
-    let at = position * 7 + 7;
+    let at = position * limits::AVP_NUMBERS + limits::HEAD_NUMBERS;
     Avp {
         depth: numbers[at],
         vendor: numbers[at + 1],
@@ -106,7 +113,7 @@ pub fn get(numbers: &[u32; limits::RECORD_NUMBERS], position: usize) -> Avp
 
 // The command's flags and identifiers.
 pub fn head_of(numbers: &[u32; limits::RECORD_NUMBERS]) -> Head
-    ensures { λ r. ⌜ r ≡ headOf (recordOf (now (numbers .entry))) ⌝ }
+    ensures { λ r. ⌜ r ≡ numberedHead (now (numbers .entry)) ⌝ }
 {
     Head {
         r: numbers[0] == 1,
@@ -134,10 +141,10 @@ fn head_flags_fit(numbers: &[u32; limits::RECORD_NUMBERS]) -> bool
 }
 
 fn avp_flags_fit(numbers: &[u32; limits::RECORD_NUMBERS], position: usize) -> bool
-    requires { ⌜ position < 256 ⌝ }
+    requires { ⌜ position < mostAvps ⌝ }
     ensures { λ r. ⌜ r ≡ avpFlagsFit (now (numbers .entry)) position ⌝ }
 {
-    let at = position * 7 + 7;
+    let at = position * limits::AVP_NUMBERS + limits::HEAD_NUMBERS;
     if 1 < numbers[at + 3] {
         return false;
     }
@@ -159,11 +166,4 @@ pub fn flags_fit(numbers: &[u32; limits::RECORD_NUMBERS]) -> bool
         i += 1;
     }
     true
-}
-
-// How many numbers there are. A proof takes from here that each fits four octets, as its type says.
-pub fn length(numbers: &[u32]) -> usize
-    ensures { λ r. ⌜ (r ≡ length (now (numbers .entry))) × ((i : ℕ) → getD (now (numbers .entry)) i 0 < 2 ^ 32) ⌝ }
-{
-    log::length(numbers)
 }

@@ -1,9 +1,2 @@
--- The laws behind the writer's proofs.
-mod Cases
-mod Positions
-mod Putting
-mod Listing
-mod Commands
-mod Lengths
+-- The laws behind the writer's answers.
 mod Answers
-mod Formed

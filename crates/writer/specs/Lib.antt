@@ -1,3 +1,2 @@
 -- What the functions of this crate promise.
-pub mod Drafts
 pub mod Promise

@@ -1,12 +1,18 @@
 -- `boundary::talazumir_read` meets its contract.
 use borrow.Author.Needs.{needs}
 use mathlib.Core.Path.{_≡_, ap, _∙_}
+use mathlib.Core.List.{List}
+use Prim.Native.Nat.{ℕ}
 use lib.ListN.{length}
 use Rattle.reader.proofs.Places.{length-mapped}
 use Rattle.rules.specs.declared.Reading.{Reading}
+use Rattle.rules.specs.Walk.{mostAvps}
 use Rattle.rules.specs.Record.{reading}
-use Rattle.numbers.specs.Numbers.{numbersOf, recordOf}
+use Rattle.rules.specs.Draft.{draftOf}
+use Rattle.numbers.specs.Numbers.{numbersOf, numberedRecord}
+use Rattle.numbers.specs.Draft.{numberedDraft}
 use Rattle.numbers.proofs.Numbers.{numbers-refused, record-back}
+use Rattle.numbers.proofs.Draft.{numbered-draft}
 use Rattle.boundary.proofs.talazumir_read.Statement.{statement}
 use Rattle.boundary.proofs.talazumir_read.Tie as tie
 
@@ -16,7 +22,7 @@ read-requires c κs = search needs
 put-requires : tie.Need-put-requires
 put-requires c κs = search needs
 
-full : (c : tie.After-read) → length (c .read .result .«record» .avps) ≡ 256
+full : (c : tie.After-read) → length (c .read .result .«record» .avps) ≡ mostAvps
 full c = search (needs, length-mapped)
 
 returns : tie.Need-returns
@@ -30,7 +36,11 @@ returns c =
     record {
       verdict = ap (λ (x : Reading). x .verdict) read;
       recorded = recorded;
-      stands = ap recordOf put ∙ record-back (r .read .result .«record») (full r) ∙ ap (λ (x : Reading). x .«record») read;
+      stands = ap numberedRecord put ∙ record-back (r .read .result .«record») (full r) ∙ ap (λ (x : Reading). x .«record») read;
+      draft = λ o.
+          ap (λ (n : List ℕ). numberedDraft n o) put
+          ∙ numbered-draft (r .read .result .«record») (full r) o
+          ∙ ap (λ (x : Reading). draftOf (x .«record») o) read;
       zero = λ v e. recorded ∙ numbers-refused s v e;
     }
 

@@ -3,14 +3,15 @@ use borrow.Author.Needs.{needs}
 use mathlib.Core.Path.{_≡_, sym, _∙_}
 use Prim.Native.Nat.{_≤_, _-_, min}
 use native.Mathlib.Omega.{arith}
-use Rattle.numbers.specs.Numbers.{countOf}
+use Rattle.rules.specs.Walk.{mostAvps}
+use Rattle.numbers.specs.Numbers.{numberedCount}
 use Rattle.boundary.specs.Parts.{searchNumbers}
 use Rattle.boundary.proofs.Parts.{positionLeft, position-all, position-end, position-here, position-later}
 use Rattle.boundary.proofs.talazumir_search.Statement.{statement}
 use Rattle.boundary.proofs.talazumir_search.Tie as tie
 
 abbrev Inv-loop : tie.InvT-loop
-Inv-loop numbers vendor code used i₀ i = (i ≤ used) × ((used ≡ min (countOf numbers) 256) × (positionLeft numbers vendor code i ≡ searchNumbers numbers vendor code))
+Inv-loop numbers vendor code used i₀ i = (i ≤ used) × ((used ≡ min (numberedCount numbers) mostAvps) × (positionLeft numbers vendor code i ≡ searchNumbers numbers vendor code))
 
 abbrev μ-loop : tie.MeasureT-loop
 μ-loop numbers vendor code used i₀ i = used - i
@@ -59,6 +60,9 @@ loop-again c =
       ),
     )
 
+cast-result-2 : tie.Need-cast-result-2 Inv-loop μ-loop
+cast-result-2 c = search needs
+
 returns-2 : tie.Need-returns-2 Inv-loop μ-loop
 returns-2 c =
     let l = c .before .loop in
@@ -81,4 +85,5 @@ talazumir-search-spec =
     add-i
     loop-less
     loop-again
+    cast-result-2
     returns-2)

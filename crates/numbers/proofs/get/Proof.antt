@@ -1,8 +1,8 @@
 -- `numbers::get` meets its contract.
 use borrow.Author.Needs.{needs}
 use mathlib.Core.Path.{refl, sym, _∙_}
-use Rattle.numbers.specs.Numbers.{avpAt}
-use Rattle.numbers.proofs.Numbers.{avpAt-out}
+use Rattle.numbers.specs.Numbers.{numberedAvp}
+use Rattle.numbers.proofs.Numbers.{avp-out}
 use Rattle.numbers.proofs.get.Statement.{statement}
 use Rattle.numbers.proofs.get.Tie as tie
 
@@ -15,7 +15,7 @@ blank-requires c κs = search needs
 returns : tie.Need-returns
 returns c =
     let s = c .before .before in
-    c .blank .ensures ∙ sym (avpAt-out (s .before .args .numbers .now) (s .before .args .position) (s .size .ensures .1) (c .before .if1 .taken))
+    c .blank .ensures ∙ sym (avp-out (s .before .args .numbers .now) (s .before .args .position) (s .size .ensures .1) (c .before .if1 .taken))
 
 mul-at : tie.Need-mul-at
 mul-at c = search needs
@@ -84,7 +84,7 @@ element-copy-out-t39 : tie.Need-element-copy-out-t39
 element-copy-out-t39 c = search needs
 
 returns-2 : tie.Need-returns-2
-unfolding avpAt
+unfolding numberedAvp
 returns-2 c = refl
 
 pub get-spec : {M : Type 1} → statement M

@@ -1,7 +1,7 @@
 -- `numbers::head_of` meets its contract.
 use borrow.Author.Needs.{needs}
 use mathlib.Core.Path.{refl}
-use Rattle.numbers.specs.Numbers.{recordOf}
+use Rattle.numbers.specs.Numbers.{numberedRecord}
 use Rattle.numbers.proofs.head_of.Statement.{statement}
 use Rattle.numbers.proofs.head_of.Tie as tie
 
@@ -24,7 +24,7 @@ element-copy-out-t23 : tie.Need-element-copy-out-t23
 element-copy-out-t23 c = search needs
 
 returns : tie.Need-returns
-unfolding recordOf
+unfolding numberedRecord
 returns c = refl
 
 pub head-of-spec : {M : Type 1} → statement M

@@ -1,17 +1,19 @@
 -- `writer::write` meets its contract: the numbers stand for the draft's record.
 use borrow.Author.Needs.{needs}
 use mathlib.Core.Path.{_≡_, ap, subst, _∙_}
+use mathlib.Core.List.{List}
+use Prim.Native.Nat.{ℕ}
 use lib.ListN.{length}
-use Rattle.rules.specs.declared.Record.{Record}
-use Rattle.numbers.specs.Numbers.{recordOf}
-use Rattle.numbers.proofs.Numbers.{record-back}
+use Rattle.rules.specs.Walk.{mostAvps}
+use Rattle.rules.specs.Draft.{Draft}
 use Rattle.reader.proofs.Places.{length-mapped}
+use Rattle.numbers.specs.Draft.{numberedDraft}
+use Rattle.numbers.proofs.Draft.{numbered-draft}
 use Rattle.writer.specs.Promise.{IsWritten}
-use mathlib.Core.Path.{_≡_, ap, _∙_}
 use Rattle.writer.proofs.write.Statement.{statement}
 use Rattle.writer.proofs.write.Tie as tie
 
-full : (st : tie.Start) → length (st .args .draft .avps) ≡ 256
+full : (st : tie.Start) → length (st .args .draft .avps) ≡ mostAvps
 full st = search (needs, length-mapped)
 
 put-requires : tie.Need-put-requires
@@ -29,9 +31,10 @@ returns c =
     let at-put = at-write-numbers .before .before .before in
     let start = at-put .before .before .before .before in
     let a = start .args in
-    let same = ap recordOf (at-put .put .ensures) ∙ record-back (a .draft) (full (start)) in
+    let same = ap (λ (n : List ℕ). numberedDraft n (a .s .now)) (at-put .put .ensures)
+    ∙ numbered-draft (a .draft) (full start) (a .s .now) in
     let w = at-write-numbers .write-numbers in
-    let is : Record → Type 0 = λ r. IsWritten r (a .s .now) (a .out .now) (w .result) (w .last .1 .1 .0) in
+    let is : Draft → Type 0 = λ d. IsWritten d (a .out .now) (w .result) (w .last .1 .1 .0) in
     subst is same (w .ensures)
 
 pub write-spec : {M : Type 1} → statement M

@@ -1,95 +1,82 @@
 -- `writer::write_numbers` meets its contract.
 use borrow.Author.Needs.{needs}
 use mathlib.Core.Path.{_≡_, sym, _∙_}
-use mathlib.Core.Bool.{true}
-use Prim.Native.Nat.{_+_}
-use native.Mathlib.Omega.{arith}
-use borrow.Author.Tests.{not-true, not-false}
 use lib.ListN.{length}
-use Rattle.rules.specs.Writer.{isWellFormed}
-use Rattle.numbers.specs.Numbers.{recordOf}
-use Rattle.writer.specs.Drafts.{draftOf, commandOf}
-use Rattle.writer.proofs.Answers.{refused-7006, refused-7001, refused-7004, formed-long, formed-ready}
+use Rattle.rules.specs.declared.Outcome.the-variants.{Pass}
+use Rattle.numbers.specs.Draft.{numberedDraft}
+use Rattle.encoding.specs.Encoding.{ownOutcome}
+use Rattle.writer.proofs.Answers.{written-refused, command-whole, can-write, written-judged}
 use Rattle.writer.proofs.write_numbers.Statement.{statement}
 use Rattle.writer.proofs.write_numbers.Tie as tie
 
-is-well-formed-requires : tie.Need-is-well-formed-requires
-is-well-formed-requires c κs = search needs
+blank-command-requires : tie.Need-blank-command-requires
+blank-command-requires c κs = search needs
 
-refusal-requires : tie.Need-refusal-requires
-refusal-requires c κs = search needs
+encode-requires : tie.Need-encode-requires
+encode-requires c κs = search needs
+
+enum-known-outcome : tie.Need-enum-known-outcome
+enum-known-outcome c = search needs
 
 returns : tie.Need-returns
 returns c =
-    let a = c .before .before .before .before .before .args in
-    let not-formed = sym (c .before .before .is-well-formed .ensures) ∙ not-true _ (c .before .if1 .taken) in
-    refused-7006 (recordOf (a .numbers .now)) (a .s .now) (a .out .now) not-formed _ (c .refusal .ensures)
+    let at-outcome = c .before in
+    let at-encode = at-outcome .before .before in
+    let a = at-encode .before .before .before .before .before .args in
+    let own = sym (at-encode .encode .ensures .outcome) ∙ at-outcome .outcome .given .1 in
+    written-refused (numberedDraft (a .numbers .now) (a .s .now)) (a .out .now) own
 
-size-under-requires : tie.Need-size-under-requires
-size-under-requires c κs = search needs
+enum-told : tie.Need-enum-told
+enum-told c = search needs
 
-add-size : tie.Need-add-size
-add-size c = search needs
+-- the draft has passed the writer's own tests
+own : (c : tie.After-enum-told) →
+    let a = c .before .before .before .before .before .before .before .args in
+    ownOutcome (numberedDraft (a .numbers .now) (a .s .now)) (length (a .out .now)) ≡ Pass
+own c = sym (c .before .before .encode .ensures .outcome) ∙ c .enum-told .given .1
 
-refusal-requires-2 : tie.Need-refusal-requires-2
-refusal-requires-2 c κs = search needs
+slice-aggregate-write-command : tie.Need-slice-aggregate-write-command
+slice-aggregate-write-command c =
+    let z = c .before in
+    let at-encode = z .before .before in
+    let at-blank = at-encode .before .before in
+    let a = at-blank .before .before .before .args in
+    sym
+    (command-whole (numberedDraft (a .numbers .now) (a .s .now)) (a .out .now) (own z) _
+    (at-encode .encode .ensures .size) _ _ (at-blank .blank-command .ensures) (at-encode .encode .ensures .left))
 
--- the draft is well formed, and the size is that of its octets
-formed : (c : tie.After-size-under) →
-    let a = c .before .before .before .before .before .args in
-    isWellFormed (draftOf (recordOf (a .numbers .now)) (a .s .now)) ≡ true
-formed c = sym (c .before .before .is-well-formed .ensures) ∙ not-false _ (c .before .if1 .left)
-
-long : (c : tie.After-size-under) →
-    let a = c .before .before .before .before .before .args in
-    20 + c .size-under .result ≡ length (commandOf (a .numbers .now) (a .s .now))
-long c =
-    let a = c .before .before .before .before .before .args in
-    formed-long (a .numbers .now) (a .s .now) (formed c) _ (c .size-under .ensures .is (a .s .now))
-
-returns-2 : tie.Need-returns-2
-returns-2 c =
+write-command-requires : tie.Need-write-command-requires
+write-command-requires c κs =
     let z = c .before .before in
-    let a = z .before .before .before .before .before .args in
-    refused-7001 (recordOf (a .numbers .now)) (a .s .now) (a .out .now) (formed z) _ (long z)
-    (omega (arith, c .before .if2 .taken)) _ (c .refusal2 .ensures)
-
-refusal-requires-3 : tie.Need-refusal-requires-3
-refusal-requires-3 c κs = search needs
-
-returns-3 : tie.Need-returns-3
-returns-3 c =
-    let z = c .before .before .before in
-    let a = z .before .before .before .before .before .args in
-    refused-7004 (recordOf (a .numbers .now)) (a .s .now) (a .out .now) (formed z) _ (long z)
-    (omega (arith, c .before .before .if2 .left)) (omega (arith, c .before .if3 .taken)) _ (c .refusal3 .ensures)
-
-write-ready-requires : tie.Need-write-ready-requires
-write-ready-requires c κs =
-    let z = c .before .before .before in
-    let a = z .before .before .before .before .before .args in
-    formed-ready (a .numbers .now) (a .s .now) (formed z) (a .out .now) _ (long z)
-    (omega (arith, c .before .before .if2 .left)) (omega (arith, c .before .if3 .left))
+    let at-encode = z .before .before in
+    let at-blank = at-encode .before .before in
+    let a = at-blank .before .before .before .args in
+    can-write (numberedDraft (a .numbers .now) (a .s .now)) (a .out .now) (own z) _
+    (at-encode .encode .ensures .size) _ _ (at-blank .blank-command .ensures) (at-encode .encode .ensures .left)
 
 same-length : tie.Need-same-length
 same-length c = search needs
 
-returns-4 : tie.Need-returns-4
-returns-4 c = search needs
+returns-2 : tie.Need-returns-2
+returns-2 c =
+    let z = c .before .before .before .before .before in
+    let at-encode = z .before .before in
+    let at-blank = at-encode .before .before in
+    let a = at-blank .before .before .before .args in
+    written-judged (numberedDraft (a .numbers .now) (a .s .now)) (a .out .now) (own z) _
+    (at-encode .encode .ensures .size) _ _ (at-blank .blank-command .ensures) (at-encode .encode .ensures .left)
+    _ _ (c .before .before .write-command .ensures)
 
 pub write-numbers-spec : {M : Type 1} → statement M
 write-numbers-spec =
     tie.close
     (tie.spec
-    is-well-formed-requires
-    refusal-requires
+    blank-command-requires
+    encode-requires
+    enum-known-outcome
     returns
-    size-under-requires
-    add-size
-    refusal-requires-2
-    returns-2
-    refusal-requires-3
-    returns-3
-    write-ready-requires
+    enum-told
+    slice-aggregate-write-command
+    write-command-requires
     same-length
-    returns-4)
+    returns-2)

@@ -1,0 +1,2 @@
+-- The laws of octets put into an output.
+pub mod Output

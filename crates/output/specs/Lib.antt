@@ -1,0 +1,2 @@
+-- What an output holds after octets were put into it.
+pub mod Output
