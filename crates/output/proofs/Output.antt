@@ -5,7 +5,7 @@ use Prim.Native.Nat.{ℕ, _+_, _≤_, _<_}
 use borrow.Author.Tests.{le-leb, lt-leb}
 use lib.ListN.{length}
 use lib.Seq.{sets}
-use Rattle.rules.specs.Writer.{octets}
+use Rattle.rules.specs.Octets.{octets}
 use Rattle.output.specs.Output.{putAt}
 
 pub octets-three : (n : ℕ) → length (octets 3 n) ≡ 3

@@ -2,7 +2,7 @@
 // they stand, and zeros. What has no room there leaves the output as it was, so each function takes any place.
 ghost use mathlib.Core.Path.{_≡_};
 ghost use lib.ListN.{replicate};
-ghost use Rattle.rules.specs.Writer.{octets};
+ghost use Rattle.rules.specs.Octets.{octets};
 ghost use Rattle.output.specs.Output.{putAt};
 
 // The last three octets of a number.
