@@ -20,6 +20,8 @@ pub mod Search
 pub mod Meaning
 pub mod Writer
 pub mod Calls
+-- beyond 01: the canonical form of a command, which names a state
+pub mod Canonical
 -- The book and its listing
 pub mod Book
 -- Commands at the edges, computed
