@@ -12,7 +12,7 @@ returns : tie.Need-returns
 returns c =
     let at-read = c .before .before .before in
     let a = at-read .before .before .before .args in
-    from-refused (a .s .now) (a .out .now) (at-read .read .result) (at-read .read .ensures) (c .if1 .taken)
+    from-refused (a .s .now) (a .out .now) (at-read .read .result) (at-read .read .ensures) (λ z. omega arith)
 
 write-requires : tie.Need-write-requires
 write-requires c κs = search needs
@@ -28,7 +28,7 @@ returns-2 c =
     let known = at-read .before .before in
     let a = known .before .args in
     from-written (a .s .now) (a .out .now) (at-read .read .result) (at-read .read .ensures)
-    (λ i. omega (arith, known .shared-slice-known .given i)) (at-else .if1 .left) _ _ (at-write .write .ensures)
+    (λ i. omega (arith, known .shared-slice-known .given i)) (omega arith) _ _ (at-write .write .ensures)
 
 pub canonical-spec : {M : Type 1} → statement M
 canonical-spec = tie.close (tie.spec read-requires returns write-requires same-length returns-2)
