@@ -71,7 +71,8 @@ struct TalazumirVerdict {
     uint32_t code;
 };
 
-/* What comes back for a draft: the verdict, and how many octets were written, 0 with a refusal. */
+/* What comes back for a draft, or for a command's canonical form: the verdict, and how many octets were written, 0 with a
+ * refusal. */
 struct TalazumirWritten {
     struct TalazumirVerdict verdict;
     uint32_t length;
@@ -117,6 +118,18 @@ uint32_t talazumir_search(const uint32_t record[TALAZUMIR_RECORD_NUMBERS], uint3
  * it was, else the octets past the length. */
 struct TalazumirWritten talazumir_write(const uint32_t record[TALAZUMIR_RECORD_NUMBERS], const uint8_t *octets, size_t length,
                                         uint8_t *out, size_t room);
+
+/* Writes the command that is the whole slice to the start of the output in its canonical form: its own record, written over
+ * its octets, so that padding and reserved bits are 0. The first of these that applies is the answer:
+ *
+ *         the refusal that talazumir_read gives to the command
+ *   7004  the room is less than the command's length
+ *      0  the form stands in the output, as long as the command
+ *
+ * The form is an accepted command with the command's meaning, and its own form. Two accepted commands have the same form
+ * exactly where they have the same meaning, that is, where they agree in every octet outside padding and the four reserved
+ * command bits: so it names a state. With a refusal the whole output stays as it was, else the octets past the length. */
+struct TalazumirWritten talazumir_canonical(const uint8_t *octets, size_t length, uint8_t *out, size_t room);
 
 #ifdef __cplusplus
 }

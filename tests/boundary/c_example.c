@@ -1,5 +1,5 @@
-/* Reads document 01's commands S, S without its last AVP, and H through the boundary, writes drafts made from S, and prints
- * what comes back. */
+/* Reads document 01's commands S, S without its last AVP, and H through the boundary, writes drafts made from S and the
+ * canonical form of commands like S, and prints what comes back. */
 #include <inttypes.h>
 #include <stdio.h>
 #include <string.h>
@@ -61,10 +61,8 @@ static size_t used(const uint32_t *numbers, size_t count) {
 
 static uint8_t output[200];
 
-/* Writes the record over S into the first `room` octets of an output that holds 0xEE throughout. */
-static void print_written(const char *name, size_t room) {
-    memset(output, 0xEE, sizeof output);
-    struct TalazumirWritten w = talazumir_write(record, S, sizeof S, output, room);
+/* An answer for the first `room` octets of an output that held 0xEE throughout, and how the output looks now. */
+static void print_answer(const char *name, size_t room, struct TalazumirWritten w) {
     size_t same = 0;
     while (same < sizeof S && output[same] == S[same]) {
         same++;
@@ -75,6 +73,18 @@ static void print_written(const char *name, size_t room) {
     }
     printf("%s into %zu: %" PRIu32 " %" PRIu32 " %" PRIu32 " %" PRIu32 ", length %" PRIu32 "; as S up to %zu, altered up to %zu\n",
            name, room, w.verdict.number, w.verdict.place, w.verdict.vendor, w.verdict.code, w.length, same, kept);
+}
+
+/* Writes the record over S. */
+static void print_written(const char *name, size_t room) {
+    memset(output, 0xEE, sizeof output);
+    print_answer(name, room, talazumir_write(record, S, sizeof S, output, room));
+}
+
+/* Writes a command in its canonical form. */
+static void print_canonical(const char *name, const uint8_t *octets, size_t length, size_t room) {
+    memset(output, 0xEE, sizeof output);
+    print_answer(name, room, talazumir_canonical(octets, length, output, room));
 }
 
 /* The record of S with one number altered. */
@@ -144,5 +154,19 @@ int main(void) {
     memset(record + TALAZUMIR_POSITION(10), 0, 7 * sizeof record[0]);
     record[TALAZUMIR_COUNT] = 10;
     print_written("S without 4208", sizeof output);
+
+    uint8_t altered[160];
+    memcpy(altered, S, sizeof altered);
+    altered[4] |= 0x0F;
+    memset(altered + 29, 0xFF, 3);
+    memset(altered + 141, 0xFF, 3);
+    print_canonical("form of S", S, sizeof S, 160);
+    print_canonical("form of S with other padding and reserved bits", altered, sizeof altered, 160);
+    print_canonical("form of S with other padding and reserved bits", altered, sizeof altered, sizeof output);
+    print_canonical("form of S with other padding and reserved bits", altered, sizeof altered, 159);
+    altered[4] |= 0x10;
+    print_canonical("form of S with T set", altered, sizeof altered, 160);
+    print_canonical("form of S without 4208", shorter, sizeof shorter, sizeof output);
+    print_canonical("form of S without 4208", shorter, sizeof shorter, 0);
     return 0;
 }

@@ -1,10 +1,11 @@
-// The boundary for C and Rust callers: the verdict, the record as numbers, the data of a position, the search, and the
-// writer.
+// The boundary for C and Rust callers: the verdict, the record as numbers, the data of a position, the search, the writer,
+// and the canonical form.
 // include/talazumir.h says the same in C's terms.
 ghost use mathlib.Core.Path.{_≡_};
 ghost use Rattle.reader.specs.Promise.{Judged};
 ghost use Rattle.numbers.specs.Draft.{numberedDraft};
 ghost use Rattle.writer.specs.Promise.{IsWritten};
+ghost use Rattle.canonical.specs.Promise.{IsCanonical};
 ghost use Rattle.boundary.specs.Parts.{IsRead, IsData, searchNumbers};
 use rules::Verdict;
 use rules::Written;
@@ -93,4 +94,12 @@ pub extern "C" fn talazumir_write(
     ensures { λ r. ⌜ IsWritten (numberedDraft (now (numbers .entry)) (now (s .entry))) (now (out .entry)) r (now (out .exit)) ⌝ }
 {
     writer::write_numbers(numbers, s, out)
+}
+
+// Writes an accepted command in its canonical form.
+#[no_mangle]
+pub extern "C" fn talazumir_canonical(s: &[u8], out: &mut [u8]) -> Written
+    ensures { λ r. ⌜ IsCanonical (now (s .entry)) (now (out .entry)) r (now (out .exit)) ⌝ }
+{
+    canonical::canonical(s, out)
 }

@@ -18,4 +18,6 @@ pub mod numbering
 pub mod calls
 -- the demands, each in its own words
 pub mod Demands
+-- the name of a state: the canonical form of a command
+pub mod States
 pub mod Examples

@@ -24,6 +24,8 @@ pub mod Draft
 pub mod Writer
 pub mod Calls
 pub mod Demands
+-- beyond 01: the canonical form of a command, which names a state
+pub mod Canonical
 -- The book and its listing
 pub mod Book
 -- Commands at the edges, computed

@@ -15,6 +15,7 @@ extern "C" {
     fn talazumir_data(record: *const u32, position: usize, octets: *const u8, length: usize) -> Part;
     fn talazumir_search(record: *const u32, vendor: u32, code: u32) -> u32;
     fn talazumir_write(record: *const u32, octets: *const u8, length: usize, out: *mut u8, room: usize) -> Written;
+    fn talazumir_canonical(octets: *const u8, length: usize, out: *mut u8, room: usize) -> Written;
 }
 
 // Each call below is sound for the same reasons. The pointers come from references, so they are not null and live through
@@ -44,4 +45,9 @@ pub(crate) fn search(record: &[u32; RECORD_NUMBERS], vendor: u32, code: u32) -> 
 pub(crate) fn write(record: &[u32; RECORD_NUMBERS], octets: &[u8], out: &mut [u8]) -> Written {
     // SAFETY: the record of 1,799 numbers and the slice are only read, the output is written; see above.
     unsafe { talazumir_write(record.as_ptr(), octets.as_ptr(), octets.len(), out.as_mut_ptr(), out.len()) }
+}
+
+pub(crate) fn canonical(octets: &[u8], out: &mut [u8]) -> Written {
+    // SAFETY: the slice is only read, the output is written; see above.
+    unsafe { talazumir_canonical(octets.as_ptr(), octets.len(), out.as_mut_ptr(), out.len()) }
 }

@@ -11,7 +11,8 @@
 //! ```
 //!
 //! A record over lent octets is a draft, which [`write`] turns into a command; `examples/rewrite.rs` reads a command, gives
-//! it another hop-by-hop identifier and writes it.
+//! it another hop-by-hop identifier and writes it. [`canonical`] writes a command in the one form that all commands of its
+//! meaning share; `examples/states.rs` keeps a set of states by it.
 
 #![deny(unsafe_code)]
 
@@ -59,7 +60,7 @@ impl fmt::Display for Verdict {
 
 impl std::error::Error for Verdict {}
 
-/// What comes back for a draft.
+/// What comes back for a draft, or for a command's canonical form.
 #[repr(C)]
 #[derive(Clone, Copy, Debug, PartialEq, Eq, Hash)]
 pub struct Written {
@@ -70,7 +71,7 @@ pub struct Written {
 }
 
 impl Written {
-    /// Whether the draft is accepted.
+    /// Whether the draft, or the command, is accepted.
     pub fn is_accepted(&self) -> bool {
         self.verdict.is_accepted()
     }
@@ -205,6 +206,26 @@ pub fn read(octets: &[u8]) -> Result<Record, Verdict> {
 /// room, is accepted.
 pub fn write(record: &Record, octets: &[u8], out: &mut [u8]) -> Written {
     boundary::write(&record.numbers, octets, out)
+}
+
+/// Writes a command in its canonical form to the start of the output: its own record, written over its octets, so that padding
+/// and reserved bits are 0. The refusal that [`read`] gives to the command is the answer, else 7004 where the output is shorter
+/// than the command. A refusal leaves the whole output as it was, an acceptance what lies past the length.
+///
+/// The form is an accepted command with the command's meaning and length, and its own form. Two accepted commands have the same
+/// form exactly where they have the same meaning, that is, where they agree in every octet outside padding and the four
+/// reserved command bits: so it names a state.
+///
+/// ```
+/// // A refusal, here of a header without its Session-Id (263), leaves the output as it was.
+/// let octets = [1, 0, 0, 20, 0xC0, 0x80, 0, 0x73, 1, 0, 0, 0x84, 0, 0, 0, 1, 0, 0, 0, 2];
+/// let mut out = [0xEE; 20];
+/// let written = talazumir::canonical(&octets, &mut out);
+/// assert_eq!((written.verdict.number, written.length), (5005, 0));
+/// assert_eq!(out, [0xEE; 20]);
+/// ```
+pub fn canonical(octets: &[u8], out: &mut [u8]) -> Written {
+    boundary::canonical(octets, out)
 }
 
 /// Judges commands one after the other with one log, and makes no record.

@@ -7,6 +7,8 @@
 mod avp;
 mod book;
 pub mod calls;
+mod canonical;
+mod command_line;
 pub mod coverage;
 pub mod dictionary;
 pub mod draft;
@@ -19,6 +21,8 @@ pub mod properties;
 mod record;
 pub mod rows;
 mod shrink;
+pub mod state_coverage;
+pub mod states;
 pub mod trial;
 mod verdict;
 mod walk;
@@ -26,6 +30,7 @@ pub mod write_coverage;
 mod writer;
 
 pub use book::{listing, pieces, Piece, LONGEST_BOOK};
+pub use canonical::canonical;
 pub use draft::{Draft, Place};
 pub use record::{data, search, Avp, Record, MOST_AVPS};
 pub use verdict::{number, Verdict};

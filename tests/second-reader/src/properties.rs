@@ -18,25 +18,15 @@ pub fn call(
     after: &[u8],
     answer: &Written,
 ) -> Result<(), String> {
-    let length = answer.length as usize;
-    let (Some(written), true) = (after.get(..length), after.len() == before.len()) else {
-        return Err(format!("{length} octets written, {} in the output", after.len()));
-    };
-    if after[length..] != before[length..] {
-        return Err("octets past the length are not as they were".into());
-    }
+    let written = written(before, after, answer)?;
     match answer.verdict.number {
         number::ACCEPTED => {
             if Meaning::of_command(written) != Some(Meaning::of_draft(draft, octets)) {
                 return Err("what is written has not the draft's meaning".into());
             }
-            let padded = padding(written).into_iter().zip(written);
-            if written[4] & 0x0F != 0 || padded.into_iter().any(|(is, &octet)| is && octet != 0) {
-                return Err("padding or reserved bits are not 0".into());
-            }
-            Ok(())
+            clean(written)
         }
-        _ if length != 0 => Err("a refusal has a length".into()),
+        _ if !written.is_empty() => Err("a refusal has a length".into()),
         number::MALFORMED_DRAFT | number::COMMAND_TOO_LONG | number::OUTPUT_TOO_SHORT
             if (answer.verdict.place, answer.verdict.vendor, answer.verdict.code) == (0, 0, 0) =>
         {
@@ -45,6 +35,43 @@ pub fn call(
         number if READER.contains(&number) => Ok(()),
         _ => Err(format!("{:?} is no answer of a writer", answer.verdict)),
     }
+}
+
+/// One canonical form: a refusal leaves the output, an acceptance what lies past the length; what is
+/// written agrees with the command and has nothing but 0 in padding and reserved bits.
+pub fn form(octets: &[u8], before: &[u8], after: &[u8], answer: &Written) -> Result<(), String> {
+    let written = written(before, after, answer)?;
+    match answer.verdict.number {
+        number::ACCEPTED => {
+            if crate::verdict(written).number != 0 || !agree(octets, written) {
+                return Err("what is written does not agree with the command".into());
+            }
+            clean(written)
+        }
+        _ if !written.is_empty() => Err("a refusal has a length".into()),
+        _ => Ok(()),
+    }
+}
+
+/// What a call wrote; what lies past the length is as it was.
+fn written<'a>(before: &[u8], after: &'a [u8], answer: &Written) -> Result<&'a [u8], String> {
+    let length = answer.length as usize;
+    let (Some(written), true) = (after.get(..length), after.len() == before.len()) else {
+        return Err(format!("{length} octets written, {} in the output", after.len()));
+    };
+    if after[length..] != before[length..] {
+        return Err("octets past the length are not as they were".into());
+    }
+    Ok(written)
+}
+
+/// Padding and reserved bits of an accepted command are 0.
+fn clean(command: &[u8]) -> Result<(), String> {
+    let mut padded = padding(command).into_iter().zip(command);
+    if command[4] & 0x0F != 0 || padded.any(|(is, &octet)| is && octet != 0) {
+        return Err("padding or reserved bits are not 0".into());
+    }
+    Ok(())
 }
 
 /// A pair of lists: the octets written are the same exactly if the accepted drafts' meanings are;

@@ -2,6 +2,7 @@
 //! output of each call, and the properties of calls and pairs.
 
 use crate::calls::{run, Outcome};
+use crate::command_line::{conclude, numbers};
 use crate::draft::Draft;
 use crate::generate::drafts::{case, Case};
 use crate::generate::lists::{pair, Change, Pair};
@@ -17,29 +18,11 @@ use std::process::ExitCode;
 /// Tries a writer as the arguments SEED DRAFTS PAIRS say, and prints what was reached. It fails at
 /// the first difference, and where a cell of the table is empty.
 pub fn main(writer: impl FnMut(&Draft, &[u8], &mut [u8]) -> Written) -> ExitCode {
-    let numbers: Option<Vec<u64>> =
-        std::env::args().skip(1).map(|word| word.parse().ok()).collect();
-    let Some([seed, drafts, pairs]) = numbers.as_deref() else {
+    let Some([seed, drafts, pairs]) = numbers() else {
         eprintln!("arguments: SEED DRAFTS PAIRS");
         return ExitCode::from(2);
     };
-    let report = match trial(*seed, *drafts, *pairs, writer) {
-        Ok(report) => report,
-        Err(words) => {
-            println!("{words}");
-            return ExitCode::FAILURE;
-        }
-    };
-    print!("{report}");
-    let gaps = report.gaps();
-    for gap in &gaps {
-        println!("not reached: {gap}");
-    }
-    if gaps.is_empty() {
-        ExitCode::SUCCESS
-    } else {
-        ExitCode::FAILURE
-    }
+    conclude(trial(seed, drafts, pairs, writer), Report::gaps)
 }
 
 /// What a trial reached.

@@ -4,3 +4,4 @@ pub mod Passes
 pub mod Exchanges
 pub mod Canonical
 pub mod RoundTrip
+pub mod OwnForm

@@ -7,11 +7,13 @@ use Prim.Native.Nat.{ℕ, zero, suc, _+_, _-_, _^_, _≤_, _<_, min}
 use native.Mathlib.Omega.{arith}
 use borrow.Author.Tests.{lt-ltb, le-ltb, le-leb}
 use lib.ListN.{length, drop, replicate, length-append, length-replicate}
+use lib.Dec.{ltb}
 use lib.Seq.{take-at, drop-at}
 use Rattle.rules.specs.declared.Avp.{Avp}
 use Rattle.rules.specs.declared.Record.{Record}
 use Rattle.rules.specs.declared.Outcome.the-variants.{Pass}
 use Rattle.rules.specs.Octets.{AreOctets}
+use Rattle.rules.specs.Verdict.{refused, refuseIf}
 use Rattle.rules.specs.Header.{longestCommand}
 use Rattle.rules.specs.Avp.{endOf}
 use Rattle.rules.specs.Dictionary.{Entry, dictionary}
@@ -138,7 +140,7 @@ module _ (c : List ℕ) (oct : AreOctets c) (pass : commandOutcome c ≡ Pass) w
         names = rw recorded-is (names-all dictionary (read .items) 20 (read .listed .fit));
       }
 
-  draft-octets : draftOctets (ownDraft c) ≡ commandOctets (meaningOf c)
+  pub draft-octets : draftOctets (ownDraft c) ≡ commandOctets (meaningOf c)
   draft-octets = ap commandOctets record-means
 
   -- written anew, the command is accepted, and means the same
@@ -151,18 +153,26 @@ module _ (c : List ℕ) (oct : AreOctets c) (pass : commandOutcome c ≡ Pass) w
   pub written-long : length (draftOctets (ownDraft c)) ≡ length c
   written-long = ap length draft-octets ∙ again-long c oct read
 
+  -- the writer's own tests pass, and the reader accepts the octets: what is left is the room
+  pub draft-outcome : (room : ℕ)
+      → draftOutcome (ownDraft c) room
+      ≡ refuseIf (ltb room (length (draftOctets (ownDraft c)))) (refused 7004 0 0 0) Pass
+  unfolding draftOutcome
+  draft-outcome room =
+      let l = written-long in
+      let within = read .header .within in
+      rw (
+        is-well-formed (ownDraft c) draft-formed,
+        le-ltb longestCommand (length (draftOctets (ownDraft c))) (omega arith),
+        written-accepted,
+      )
+
   module _ (out : List ℕ) (room : length c ≤ length out) where
     pub draft-accepted : draftOutcome (ownDraft c) (length out) ≡ Pass
-    unfolding draftOutcome
     draft-accepted =
         let l = written-long in
-        let within = read .header .within in
-        rw (
-          is-well-formed (ownDraft c) draft-formed,
-          le-ltb longestCommand (length (draftOctets (ownDraft c))) (omega arith),
-          le-ltb (length out) (length (draftOctets (ownDraft c))) (omega arith),
-          written-accepted,
-        )
+        draft-outcome (length out)
+        ∙ rw (le-ltb (length out) (length (draftOctets (ownDraft c))) (omega arith))
 
     pub draft-written : octetsWritten (ownDraft c) (length out) ≡ draftOctets (ownDraft c)
     unfolding octetsWritten

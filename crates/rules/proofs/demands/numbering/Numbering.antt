@@ -1,6 +1,6 @@
 -- The number that comes back is 0 or one of the table: the reader's, and for a draft those of the writer too. The table
 -- lacks 0 but for acceptance, so the number is 0 exactly when the command, or the draft, is accepted.
-use mathlib.Core.Path.{_≡_, refl, ap}
+use mathlib.Core.Path.{_≡_, refl, sym, ap, _∙_}
 use mathlib.Core.Bool.{true, false}
 use mathlib.Core.List.{List, _∷_}
 use mathlib.Core.Logic.{_↔_}
@@ -8,6 +8,7 @@ use Prim.Native.Nat.{ℕ}
 use borrow.Author.Tests.{ne-eqb}
 use lib.Dec.{eqb}
 use lib.ListN.{length}
+use Rattle.rules.specs.declared.Verdict.{Verdict}
 use Rattle.rules.specs.declared.Outcome.{Outcome}
 use Rattle.rules.specs.declared.Outcome.the-variants.{Pass, Refused}
 use Rattle.rules.specs.Verdict.{readerNumbers, writerOnlyNumbers, writerNumbers, isAmong, verdictOf}
@@ -18,6 +19,7 @@ use Rattle.rules.specs.Command.{commandGrammar, ownList, walkOf, listsOu
 use Rattle.rules.specs.Draft.{Draft}
 use Rattle.rules.specs.Writer.{draftOctets, draftOutcome, writing}
 use Rattle.rules.proofs.Tests.{or-right}
+use Rattle.rules.proofs.Walk.{never}
 use Rattle.rules.proofs.demands.items.Lists.{not-both}
 use Rattle.rules.proofs.demands.numbering.Refusals.{numberIn, isNumbered, either, both, in-turn, header-numbered, walk-numbered}
 use Rattle.rules.proofs.demands.numbering.ListRefusals.{rows-numbered, exchange-numbered}
@@ -99,3 +101,8 @@ pub draft-number : (d : Draft) (out : List ℕ)
     → (writing d out .verdict .number ≡ 0) ↔ (draftOutcome d (length out) ≡ Pass)
 unfolding writing writerOnlyNumbers readerNumbers
 draft-number d out = number-tells writerNumbers (draftOutcome d (length out)) refl (draft-numbered d (length out))
+
+-- so no refusal of a command has the number 0
+pub command-refusal : (s : List ℕ) (v : Verdict) → commandOutcome s ≡ Refused v → v .number ≡ 0 → ⊥
+unfolding commandVerdict
+command-refusal s v e z = never (sym e ∙ command-number s .0 (ap (λ (o : Outcome). verdictOf o .number) e ∙ z))

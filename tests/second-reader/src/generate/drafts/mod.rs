@@ -10,7 +10,7 @@ mod source;
 mod ways;
 
 pub use lend::{lend, settle};
-pub use room::{room, Room};
+pub use room::{output, room, Room};
 pub use source::Origin;
 pub use ways::{Field, Flag, Spot, Way};
 
@@ -60,7 +60,7 @@ pub fn case(prng: &mut Prng) -> Case {
         11 => limits::crowd(&mut draft, prng),
         _ => {}
     }
-    let output = room::output(&draft, prng);
+    let output = room::draft_output(&draft, prng);
     Case { origin, way, draft, octets, output }
 }
 

@@ -41,13 +41,11 @@ pub fn room(length: u64, room: usize) -> Room {
     }
 }
 
-/// An output of any room for a draft.
-pub fn output(draft: &Draft, prng: &mut Prng) -> Vec<u8> {
-    // A draft that is too long gets rooms as if it were not.
-    let length = length(draft).min(LONGEST_COMMAND as u64 + 8) as usize;
+/// An output of any room for a command of this length.
+pub fn output(length: usize, prng: &mut Prng) -> Vec<u8> {
     let room = match prng.below(16) {
         0 => 0,
-        1 => length - 1,
+        1 => length.saturating_sub(1),
         2 => prng.below(length),
         3 => prng.pick(&[19, 20, 4, 1]),
         4..=7 => length,
@@ -56,4 +54,9 @@ pub fn output(draft: &Draft, prng: &mut Prng) -> Vec<u8> {
         _ => length + prng.below(70),
     };
     prng.octets(room)
+}
+
+/// An output of any room for a draft; one that is too long gets rooms as if it were not.
+pub fn draft_output(draft: &Draft, prng: &mut Prng) -> Vec<u8> {
+    output(length(draft).min(LONGEST_COMMAND as u64 + 8) as usize, prng)
 }

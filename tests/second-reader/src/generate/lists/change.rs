@@ -56,7 +56,8 @@ pub fn changed(change: Change, list: &[Call], prng: &mut Prng) -> Option<Vec<Cal
     Some(list)
 }
 
-fn octets(call: &Call) -> &[u8] {
+/// The octets that a call lends, where they are its own.
+pub fn octets(call: &Call) -> &[u8] {
     match &call.lent {
         Lent::Own(octets) => octets,
         Lent::Written => &[],
@@ -164,7 +165,7 @@ fn command(draft: &Draft, octets: &[u8]) -> Vec<u8> {
 }
 
 /// The record of a command with the draft's meaning that has other padding and reserved bits.
-fn source(draft: &Draft, octets: &[u8], prng: &mut Prng) -> (Draft, Vec<u8>) {
+pub fn source(draft: &Draft, octets: &[u8], prng: &mut Prng) -> (Draft, Vec<u8>) {
     let mut command = command(draft, octets);
     for (at, padding) in padding(&command).into_iter().enumerate() {
         if padding {

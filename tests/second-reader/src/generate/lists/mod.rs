@@ -1,6 +1,7 @@
 //! Pairs of lists of write calls that differ in one thing, which their meaning has or has not.
 
 mod change;
+mod twins;
 
 use super::drafts::{accepted, refused};
 use super::prng::Prng;
@@ -8,6 +9,8 @@ use crate::calls::{Call, Lent};
 use crate::draft::Draft;
 use crate::header::LONGEST_COMMAND;
 use change::{changed, lenders};
+
+pub use twins::{twins, Twins, CHANGES};
 
 /// In what the second list differs from the first.
 #[derive(Clone, Copy, Debug, PartialEq, Eq, PartialOrd, Ord)]

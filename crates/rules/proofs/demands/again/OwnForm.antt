@@ -1,0 +1,121 @@
+-- A command in its canonical form: a call for it answers and leaves what the writer does for the command's own record
+-- over its octets, and its own refusals leave the output as it was.
+use mathlib.Core.Path.{_≡_, refl, sym, ap, _∙_}
+use mathlib.Core.Bool.{Bool, true, false}
+use mathlib.Core.List.{List, []}
+use Prim.Native.Nat.{ℕ, _≤_}
+use native.Mathlib.Omega.{arith}
+use borrow.Author.Tests.{le-ltb, ltb-false}
+use lib.Dec.{ltb}
+use lib.ListN.{length}
+use lib.Seq.{take-append-seam}
+use Rattle.rules.specs.declared.Verdict.{Verdict}
+use Rattle.rules.specs.declared.Outcome.the-variants.{Pass, Refused}
+use Rattle.rules.specs.Verdict.{refused, refuseIf, verdictOf}
+use Rattle.rules.specs.Command.{commandOutcome, commandVerdict}
+use Rattle.rules.specs.Meaning.{meaningOf}
+use Rattle.rules.specs.Draft.{ownDraft}
+use Rattle.rules.specs.Writer.{draftOctets, draftOutcome, octetsWritten, writing, outputAfter}
+use Rattle.rules.specs.Canonical.{canonicalOctets, canonicalOutcome, canonicalWritten, canonical, canonicalOutput, canonicalFront}
+use Rattle.rules.specs.Octets.{AreOctets}
+use Rattle.rules.proofs.demands.written.Judged.{by-outcome}
+use Rattle.rules.proofs.demands.numbering.Numbering.{command-number, command-refusal}
+use Rattle.rules.proofs.demands.again.RoundTrip.{draft-octets, draft-outcome, written-accepted, written-means, written-long}
+
+-- ---- what an answer tells
+
+-- no refusal of a call has the number 0
+room-told : (short : Bool) → verdictOf (refuseIf short (refused 7004 0 0 0) Pass) .number ≡ 0 → short ≡ false
+room-told true z = absurd (omega arith)
+room-told false z = refl
+
+module _ (c out : List ℕ) where
+  module _ (v : Verdict) (no : commandOutcome c ≡ Refused v) where
+    none-written : canonicalWritten c (length out) ≡ []
+    unfolding canonicalWritten canonicalOutcome
+    none-written = rw no
+
+    answer-of : canonical c out ≡ record { verdict = commandVerdict c; length = 0 }
+    unfolding canonical canonicalOutcome commandVerdict
+    answer-of = rw (none-written, no)
+
+    number-of : canonical c out .verdict .number ≡ v .number
+    unfolding canonical canonicalOutcome
+    number-of = rw no
+
+    output-of : canonicalOutput c out ≡ out
+    unfolding canonicalOutput
+    output-of = rw none-written
+
+  -- a call for a refused command: the reader's refusal, and the output as it was
+  module _ (n : commandVerdict c .number ≡ 0 → ⊥) where
+    pub refused-answer : canonical c out ≡ record { verdict = commandVerdict c; length = 0 }
+    refused-answer = by-outcome (commandOutcome c) (λ e. absurd (n (command-number c .1 e))) answer-of
+
+    pub refused-output : canonicalOutput c out ≡ out
+    refused-output = by-outcome (commandOutcome c) (λ e. absurd (n (command-number c .1 e))) output-of
+
+  module _ (z : canonical c out .verdict .number ≡ 0) where
+    -- a call that is accepted is one for an accepted command
+    pub accepted-command : commandOutcome c ≡ Pass
+    accepted-command =
+        by-outcome (commandOutcome c) (λ e. e) (λ v no. absurd (command-refusal c v no (sym (number-of v no) ∙ z)))
+
+    -- with room for its form
+    not-short : ltb (length out) (length (canonicalOctets c)) ≡ false
+    unfolding canonical canonicalOutcome
+    not-short = room-told _ (rw accepted-command at z)
+
+    form-written : canonicalWritten c (length out) ≡ canonicalOctets c
+    unfolding canonicalWritten canonicalOutcome
+    form-written = rw (accepted-command, not-short)
+
+    -- and wrote that form
+    pub front-form : canonicalFront c out ≡ canonicalOctets c
+    unfolding canonical canonicalOutput
+    front-form = take-append-seam (canonicalWritten c (length out)) _ ∙ form-written
+
+-- ---- the form itself
+
+module _ (c : List ℕ) (oct : AreOctets c) (pass : commandOutcome c ≡ Pass) where
+  form-is : draftOctets (ownDraft c) ≡ canonicalOctets c
+  unfolding canonicalOctets
+  form-is = draft-octets c oct pass
+
+  pub form-accepted : commandOutcome (canonicalOctets c) ≡ Pass
+  form-accepted = ap commandOutcome (sym form-is) ∙ written-accepted c oct pass
+
+  pub form-means : meaningOf (canonicalOctets c) ≡ meaningOf c
+  form-means = ap meaningOf (sym form-is) ∙ written-means c oct pass
+
+  pub form-long : length (canonicalOctets c) ≡ length c
+  form-long = ap length (sym form-is) ∙ written-long c oct pass
+
+  -- ---- a call for it
+
+  outcome-is : (room : ℕ) → draftOutcome (ownDraft c) room ≡ canonicalOutcome c room
+  unfolding canonicalOutcome
+  outcome-is room = draft-outcome c oct pass room ∙ rw (pass, form-is)
+
+  written-is : (room : ℕ) → octetsWritten (ownDraft c) room ≡ canonicalWritten c room
+  unfolding octetsWritten canonicalWritten
+  written-is room = rw (outcome-is room, form-is)
+
+  pub answer-is : (out : List ℕ) → writing (ownDraft c) out ≡ canonical c out
+  unfolding writing canonical
+  answer-is out = rw (outcome-is (length out), written-is (length out))
+
+  pub output-is : (out : List ℕ) → outputAfter (ownDraft c) out ≡ canonicalOutput c out
+  unfolding outputAfter canonicalOutput
+  output-is out = rw (written-is (length out))
+
+  pub accepted-room : (out : List ℕ) → canonical c out .verdict .number ≡ 0 → length c ≤ length out
+  accepted-room out z =
+      let long = form-long in
+      omega (arith, ltb-false (length out) (length (canonicalOctets c)) (not-short c out z))
+
+  pub room-accepted : (out : List ℕ) → length c ≤ length out → canonical c out .verdict .number ≡ 0
+  unfolding canonical canonicalOutcome
+  room-accepted out room =
+      let long = form-long in
+      rw (pass, le-ltb (length out) (length (canonicalOctets c)) (omega arith))
