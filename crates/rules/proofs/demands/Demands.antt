@@ -108,7 +108,7 @@ demand-2-rewrite c out oct a room =
 -- ---- demand 3
 
 -- "Any two accepted commands have the same meaning exactly when they agree in every octet outside padding and the four
--- reserved command bits."
+-- reserved command bits." `agree` computes whether they do: agree-tells (agreement/Tested).
 -- Carried by same-octets and same-flats (agreement/Alike), same-cells (agreement/Depths: depths follow from the rest)
 -- and accepted (read/Commands: the items of an accepted command).
 -- Ruled out: a meaning of the AVP texts run together, so that two commands with their octets cut at different places
