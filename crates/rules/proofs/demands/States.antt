@@ -72,7 +72,7 @@ state-agree a b oa ob ka kb =
 abbrev pub AcceptedCanonical : List ℕ → List ℕ → Type 0
 AcceptedCanonical c out = canonical c out .verdict .number ≡ 0
 
--- A call is accepted exactly when its command is, and the output is as long as the command.
+-- A call is accepted exactly when its command is and the output is no shorter than the command.
 -- Carried by draft-outcome (again/RoundTrip: of the writer's tests only the room is left) and form-long (again/OwnForm).
 -- Ruled out: a call that comes back with 7006 or 7001 for a command that the reader accepts; one that wants more room than
 -- the command takes.
