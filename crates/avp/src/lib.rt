@@ -3,7 +3,7 @@ ghost use mathlib.Core.Path.{_≡_};
 ghost use mathlib.Core.Bool.{_&&_};
 ghost use Prim.Native.Nat.{_-_};
 ghost use lib.Dec.{eqb};
-ghost use Rattle.rules.specs.Verdict.{refused};
+ghost use Rattle.rules.specs.Verdict.{refused, verdictOf, Answers};
 ghost use Rattle.rules.specs.Avp.{named, placeOf};
 ghost use Rattle.rules.specs.RowChecks.{memberFault};
 ghost use Rattle.rules.specs.Search.{blank};
@@ -74,7 +74,7 @@ pub fn place_of(a: Avp) -> u32
 }
 
 pub fn refusal(number: u32, place: u32, vendor: u32, code: u32) -> Outcome
-    ensures { λ r. ⌜ r ≡ refused number place vendor code ⌝ }
+    ensures { λ r. ⌜ Answers verdictOf (refused number place vendor code) r ⌝ }
 {
     Outcome::Refused(Verdict {
         number,
@@ -86,7 +86,7 @@ pub fn refusal(number: u32, place: u32, vendor: u32, code: u32) -> Outcome
 
 // A refusal at an AVP that is there.
 pub fn member_fault(number: u32, a: Avp) -> Outcome
-    ensures { λ r. ⌜ r ≡ memberFault number a ⌝ }
+    ensures { λ r. ⌜ Answers verdictOf (memberFault number a) r ⌝ }
 {
     refusal(number, place_of(a), a.vendor, a.code)
 }

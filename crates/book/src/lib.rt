@@ -120,7 +120,7 @@ fn is_cut(book: &[u8], offset: usize) -> bool
         return true;
     }
     let length = octets::number3(book, offset + 1) as usize;
-    if length < 20 {
+    if length < limits::HEADER_SIZE {
         return true;
     }
     left < length

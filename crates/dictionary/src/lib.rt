@@ -1,7 +1,8 @@
 // 01, Dictionary, as a search by Vendor-Id and AVP code. Codes and widths are the constants of the kinds; each arm of a
 // `match` stands for one entry.
 ghost use mathlib.Core.Path.{_≡_};
-ghost use Rattle.rules.specs.Dictionary.{find, dictionary, membersOf};
+ghost use Rattle.rules.specs.Verdict.{Answers};
+ghost use Rattle.rules.specs.Dictionary.{find, dictionary, membersOf, rowsNumber, printed};
 ghost use Rattle.rules.specs.Meaning.{isReadGroup};
 use rules::Definition;
 use rules::Form;
@@ -105,7 +106,7 @@ fn definition_of_3gpp(code: u32) -> Definition
 
 // What the dictionary says of a name.
 pub fn definition(vendor: u32, code: u32) -> Definition
-    ensures { λ r. ⌜ r ≡ find dictionary vendor code ⌝ }
+    ensures { λ r. ⌜ Answers printed (find dictionary vendor code) r ⌝ }
 {
     match vendor {
         kinds::NO_VENDOR => definition_without_vendor(code),
@@ -142,7 +143,7 @@ fn members_of_3gpp(code: u32) -> Members
 
 // The rows that the members of a name's group go by. It looks at groups alone, so it is shorter than the whole search.
 pub fn members(vendor: u32, code: u32) -> Members
-    ensures { λ r. ⌜ r ≡ membersOf (find dictionary vendor code) ⌝ }
+    ensures { λ r. ⌜ Answers rowsNumber (membersOf (find dictionary vendor code)) r ⌝ }
 {
     match vendor {
         kinds::NO_VENDOR => members_without_vendor(code),

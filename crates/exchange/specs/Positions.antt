@@ -4,11 +4,12 @@ use mathlib.Core.Path.{_≡_}
 use Prim.Native.Nat.{ℕ, _≤_, _<_}
 use Rattle.rules.specs.declared.Found.{Found}
 use Rattle.rules.specs.declared.Found.the-variants.{At}
+use Rattle.rules.specs.Walk.{mostAvps}
 
 -- the position of one of `count` AVPs
 pub record Position (i count : ℕ) : Type 0 where
   pub used : i < count
-  pub room : count ≤ 256
+  pub room : count ≤ mostAvps
 
 -- what a search among `count` AVPs gives
 pub record IsFound (f : Found) (count : ℕ) (r : Found) : Type 0 where

@@ -2,6 +2,7 @@
 ghost use mathlib.Core.Path.{_≡_};
 ghost use Prim.Native.Nat.{_≤_};
 ghost use Rattle.rules.specs.Exchange.{resultOutcome, policiesOutcome, policyOutcome, eachPolicy, answerOutcome};
+ghost use Rattle.rules.specs.Walk.{mostAvps};
 ghost use Rattle.log.specs.Log.{avpOf, avpsIn};
 ghost use Rattle.rules.specs.Exchange.{heldBy, policyAt};
 ghost use Rattle.exchange.specs.Positions.{Position};
@@ -26,7 +27,7 @@ use rules::limits;
 
 // Result-Code or Experimental-Result, and not both.
 fn result_outcome(log: &[u32; limits::LOG_NUMBERS], count: usize, end: u32) -> Outcome
-    requires { ⌜ count ≤ 256 ⌝ }
+    requires { ⌜ count ≤ mostAvps ⌝ }
     ensures { λ r. ⌜ r ≡ resultOutcome (avpsIn (now (log .entry)) count) end ⌝ }
 {
     let Found::At(i) = search(
@@ -45,7 +46,7 @@ fn result_outcome(log: &[u32; limits::LOG_NUMBERS], count: usize, end: u32) -> O
 
 // With any policy a Reference-Id, with two or more a PCRF-Address.
 fn policies_outcome(log: &[u32; limits::LOG_NUMBERS], count: usize, end: u32) -> Outcome
-    requires { ⌜ count ≤ 256 ⌝ }
+    requires { ⌜ count ≤ mostAvps ⌝ }
     ensures { λ r. ⌜ r ≡ policiesOutcome (avpsIn (now (log .entry)) count) end ⌝ }
 {
     let Found::At(i) = search(log, count, TransferPolicy::VENDOR, TransferPolicy::CODE) else {
@@ -103,7 +104,7 @@ fn policy_at(log: &[u32; limits::LOG_NUMBERS], i: usize, count: usize) -> Outcom
 }
 
 fn each_policy(log: &[u32; limits::LOG_NUMBERS], count: usize) -> Outcome
-    requires { ⌜ count ≤ 256 ⌝ }
+    requires { ⌜ count ≤ mostAvps ⌝ }
     ensures { λ r. ⌜ r ≡ eachPolicy (avpsIn (now (log .entry)) count) 0 (avpsIn (now (log .entry)) count) ⌝ }
 {
     let mut i = 0;
@@ -118,7 +119,7 @@ fn each_policy(log: &[u32; limits::LOG_NUMBERS], count: usize) -> Outcome
 }
 
 pub(crate) fn answer_outcome(log: &[u32; limits::LOG_NUMBERS], count: usize, end: u32) -> Outcome
-    requires { ⌜ count ≤ 256 ⌝ }
+    requires { ⌜ count ≤ mostAvps ⌝ }
     ensures { λ r. ⌜ r ≡ answerOutcome (avpsIn (now (log .entry)) count) end ⌝ }
 {
     let result = result_outcome(log, count, end);

@@ -2,7 +2,9 @@
 // A search for an AVP is in `search`, the rules in the modules of their names.
 ghost use mathlib.Core.Path.{_≡_};
 ghost use Prim.Native.Nat.{_≤_};
+ghost use Rattle.rules.specs.Verdict.{verdictOf, Answers};
 ghost use Rattle.rules.specs.Exchange.{exchangeOutcome};
+ghost use Rattle.rules.specs.Walk.{mostAvps};
 ghost use Rattle.log.specs.Log.{avpsIn};
 ghost use Rattle.rules.specs.Exchange.{byCommand};
 use rules::Outcome;
@@ -21,7 +23,7 @@ fn by_command(
     count: usize,
     end: u32,
 ) -> Outcome
-    requires { ⌜ count ≤ 256 ⌝ }
+    requires { ⌜ count ≤ mostAvps ⌝ }
     ensures { λ r. ⌜ r ≡ byCommand request (avpsIn (now (log .entry)) count) (now (s .entry)) end ⌝ }
 {
     if request {
@@ -38,7 +40,7 @@ pub fn judge(
     count: usize,
     end: u32,
 ) -> Outcome
-    ensures { λ r. ⌜ r ≡ exchangeOutcome request (avpsIn (now (log .entry)) count) (now (s .entry)) end ⌝ }
+    ensures { λ r. ⌜ Answers verdictOf (exchangeOutcome request (avpsIn (now (log .entry)) count) (now (s .entry)) end) r ⌝ }
 {
     let avps = log::used(count);
     let outcome = by_command(request, s, log, avps, end);

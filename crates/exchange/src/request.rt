@@ -2,6 +2,7 @@
 ghost use mathlib.Core.Path.{_≡_};
 ghost use Prim.Native.Nat.{_≤_};
 ghost use Rattle.rules.specs.Exchange.{volume as volumeOf, firstRequest, laterRequest, byRequestType, requestOutcome};
+ghost use Rattle.rules.specs.Walk.{mostAvps};
 ghost use Rattle.log.specs.Log.{avpsIn};
 use crate::search::number_of;
 use crate::search::require;
@@ -23,7 +24,7 @@ use rules::limits;
 
 // One of three is enough; where none is there, CC-Output-Octets is missing.
 fn volume(log: &[u32; limits::LOG_NUMBERS], count: usize, end: u32) -> Outcome
-    requires { ⌜ count ≤ 256 ⌝ }
+    requires { ⌜ count ≤ mostAvps ⌝ }
     ensures { λ r. ⌜ r ≡ volumeOf (avpsIn (now (log .entry)) count) end ⌝ }
 {
     let input = search(log, count, CcInputOctets::VENDOR, CcInputOctets::CODE);
@@ -45,7 +46,7 @@ fn volume(log: &[u32; limits::LOG_NUMBERS], count: usize, end: u32) -> Outcome
 
 // Transfer-Request-Type 0: the first request of a transfer.
 fn first_request(log: &[u32; limits::LOG_NUMBERS], count: usize, end: u32) -> Outcome
-    requires { ⌜ count ≤ 256 ⌝ }
+    requires { ⌜ count ≤ mostAvps ⌝ }
     ensures { λ r. ⌜ r ≡ firstRequest (avpsIn (now (log .entry)) count) end ⌝ }
 {
     let provider = require(
@@ -71,7 +72,7 @@ fn first_request(log: &[u32; limits::LOG_NUMBERS], count: usize, end: u32) -> Ou
 
 // Transfer-Request-Type 1: the policy is chosen.
 fn later_request(log: &[u32; limits::LOG_NUMBERS], count: usize, end: u32) -> Outcome
-    requires { ⌜ count ≤ 256 ⌝ }
+    requires { ⌜ count ≤ mostAvps ⌝ }
     ensures { λ r. ⌜ r ≡ laterRequest (avpsIn (now (log .entry)) count) end ⌝ }
 {
     let reference = require(log, count, end, ReferenceId::VENDOR, ReferenceId::CODE);
@@ -98,7 +99,7 @@ fn later_request(log: &[u32; limits::LOG_NUMBERS], count: usize, end: u32) -> Ou
 }
 
 fn by_request_type(log: &[u32; limits::LOG_NUMBERS], count: usize, end: u32, value: u32) -> Outcome
-    requires { ⌜ count ≤ 256 ⌝ }
+    requires { ⌜ count ≤ mostAvps ⌝ }
     ensures { λ r. ⌜ r ≡ byRequestType (avpsIn (now (log .entry)) count) end value ⌝ }
 {
     if value == 0 {
@@ -116,7 +117,7 @@ pub(crate) fn request_outcome(
     count: usize,
     end: u32,
 ) -> Outcome
-    requires { ⌜ count ≤ 256 ⌝ }
+    requires { ⌜ count ≤ mostAvps ⌝ }
     ensures { λ r. ⌜ r ≡ requestOutcome (avpsIn (now (log .entry)) count) (now (s .entry)) end ⌝ }
 {
     let Found::At(i) = search(

@@ -7,6 +7,7 @@ ghost use Rattle.rules.specs.Avp.{endOf};
 ghost use Rattle.rules.specs.Search.{avpIn, firstFrom};
 ghost use Rattle.rules.specs.Search.{search as searched, member as memberOf};
 ghost use Rattle.rules.specs.Exchange.{require as requireIn};
+ghost use Rattle.rules.specs.Walk.{mostAvps};
 ghost use Rattle.log.specs.Log.{avpOf, avpsIn};
 ghost use Rattle.rules.specs.Search.{isAt};
 ghost use Rattle.exchange.specs.Positions.{Position, IsFound};
@@ -47,7 +48,7 @@ pub(crate) fn first(
     vendor: u32,
     code: u32,
 ) -> Found
-    requires { ⌜ count ≤ 256 ⌝ }
+    requires { ⌜ count ≤ mostAvps ⌝ }
     ensures { λ r. ⌜ IsFound (firstFrom from floor depth (drop from (avpsIn (now (log .entry)) count)) vendor code) count r ⌝ }
 {
     let mut i = from;
@@ -70,7 +71,7 @@ pub(crate) fn search(
     vendor: u32,
     code: u32,
 ) -> Found
-    requires { ⌜ count ≤ 256 ⌝ }
+    requires { ⌜ count ≤ mostAvps ⌝ }
     ensures { λ r. ⌜ IsFound (searched (avpsIn (now (log .entry)) count) vendor code) count r ⌝ }
 {
     first(log, 0, count, 0, 1, vendor, code)
@@ -99,7 +100,7 @@ pub(crate) fn require(
     vendor: u32,
     code: u32,
 ) -> Outcome
-    requires { ⌜ count ≤ 256 ⌝ }
+    requires { ⌜ count ≤ mostAvps ⌝ }
     ensures { λ r. ⌜ r ≡ requireIn (avpsIn (now (log .entry)) count) end vendor code ⌝ }
 {
     let Found::At(_) = search(log, count, vendor, code) else {

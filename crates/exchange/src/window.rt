@@ -2,6 +2,7 @@
 ghost use mathlib.Core.Path.{_≡_};
 ghost use Prim.Native.Nat.{_≤_};
 ghost use Rattle.rules.specs.Exchange.{isBefore, windowOutcome, eachWindow};
+ghost use Rattle.rules.specs.Walk.{mostAvps};
 ghost use Rattle.log.specs.Log.{avpOf, avpsIn};
 ghost use Rattle.rules.specs.Exchange.{timesBy, windowAt};
 ghost use Rattle.exchange.specs.Positions.{Position};
@@ -102,7 +103,7 @@ fn window_at(s: &[u8], log: &[u32; limits::LOG_NUMBERS], i: usize, count: usize)
 }
 
 pub(crate) fn each_window(s: &[u8], log: &[u32; limits::LOG_NUMBERS], count: usize) -> Outcome
-    requires { ⌜ count ≤ 256 ⌝ }
+    requires { ⌜ count ≤ mostAvps ⌝ }
     ensures { λ r. ⌜ r ≡ eachWindow (avpsIn (now (log .entry)) count) (now (s .entry)) 0 (avpsIn (now (log .entry)) count) ⌝ }
 {
     let mut i = 0;

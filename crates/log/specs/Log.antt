@@ -10,6 +10,13 @@ use Rattle.rules.specs.Walk.{mostAvps}
 use Rattle.rules.specs.Avp.{endOf}
 use Rattle.rules.specs.Search.{blank}
 
+-- the numbers of an AVP, and those of a log
+abbrev pub numbersPerAvp : ℕ
+numbersPerAvp = 7
+
+abbrev pub logNumbers : ℕ
+logNumbers = mostAvps * numbersPerAvp
+
 abbrev pub bit : Bool → ℕ
 bit true = 1
 bit false = 0
@@ -26,7 +33,7 @@ fitsLog a = ltb (endOf a) (2 ^ 32)
 
 -- the log with an AVP at a position, where both fit
 unfoldable pub putAvp : List ℕ → ℕ → Avp → List ℕ
-putAvp log i a = cond (ltb i mostAvps && fitsLog a) (numbersAt log (i * 7) a) log
+putAvp log i a = cond (ltb i mostAvps && fitsLog a) (numbersAt log (i * numbersPerAvp) a) log
 
 -- the AVP of seven numbers from a place on
 abbrev pub avpFrom : List ℕ → ℕ → Avp
@@ -41,7 +48,7 @@ avpFrom log at = record {
 }
 
 unfoldable pub avpOf : List ℕ → ℕ → Avp
-avpOf log i = cond (ltb i mostAvps) (avpFrom log (i * 7)) blank
+avpOf log i = cond (ltb i mostAvps) (avpFrom log (i * numbersPerAvp)) blank
 
 -- the next n AVPs from a position on
 unfoldable pub avpsFrom : List ℕ → ℕ → ℕ → List Avp

@@ -4,7 +4,8 @@ ghost use mathlib.Core.Path.{_≡_};
 ghost use Prim.Native.Nat.{_-_, min};
 ghost use lib.ListN.{length};
 ghost use Rattle.rules.specs.Avp.{endOf, named};
-ghost use Rattle.log.specs.Log.{bit, putAvp, avpOf};
+ghost use Rattle.rules.specs.Walk.{mostAvps};
+ghost use Rattle.log.specs.Log.{logNumbers, bit, putAvp, avpOf};
 use rules::Avp;
 use rules::limits;
 
@@ -37,17 +38,17 @@ pub fn length(numbers: &[u32]) -> usize
 
 // The numbers of a log. A proof takes from here that what a log holds is as long as its type says.
 pub fn size(log: &[u32; limits::LOG_NUMBERS]) -> usize
-    ensures { λ r. ⌜ (r ≡ 1792) × (length (now (log .entry)) ≡ 1792) ⌝ }
+    ensures { λ r. ⌜ (r ≡ logNumbers) × (length (now (log .entry)) ≡ logNumbers) ⌝ }
 {
     length(log)
 }
 
 // A count above 256 is read as 256.
 pub fn used(count: usize) -> usize
-    ensures { λ r. ⌜ r ≡ min count 256 ⌝ }
+    ensures { λ r. ⌜ r ≡ min count mostAvps ⌝ }
 {
-    if 256 < count {
-        return 256;
+    if limits::MOST_AVPS < count {
+        return limits::MOST_AVPS;
     }
     count
 }
@@ -56,13 +57,13 @@ pub fn used(count: usize) -> usize
 pub fn put(log: &mut [u32; limits::LOG_NUMBERS], position: usize, a: Avp)
     ensures { λ _. ⌜ now (log .exit) ≡ putAvp (now (log .entry)) position a ⌝ }
 {
-    if 256 <= position {
+    if limits::MOST_AVPS <= position {
         return;
     }
     if 4294967295 - a.length < a.start {
         return;
     }
-    let at = position * 7;
+    let at = position * limits::AVP_NUMBERS;
     log[at] = a.depth;
     log[at + 1] = a.vendor;
     log[at + 2] = a.code;
@@ -76,10 +77,10 @@ pub fn put(log: &mut [u32; limits::LOG_NUMBERS], position: usize, a: Avp)
 pub fn get(log: &[u32; limits::LOG_NUMBERS], position: usize) -> Avp
     ensures { λ r. ⌜ r ≡ avpOf (now (log .entry)) position ⌝ }
 {
-    if 256 <= position {
+    if limits::MOST_AVPS <= position {
         return avp::blank();
     }
-    let at = position * 7;
+    let at = position * limits::AVP_NUMBERS;
     Avp {
         depth: log[at],
         vendor: log[at + 1],
@@ -95,10 +96,10 @@ pub fn get(log: &[u32; limits::LOG_NUMBERS], position: usize) -> Avp
 pub fn data_end(log: &[u32; limits::LOG_NUMBERS], position: usize) -> u32
     ensures { λ r. ⌜ r ≡ endOf (avpOf (now (log .entry)) position) ⌝ }
 {
-    if 256 <= position {
+    if limits::MOST_AVPS <= position {
         return 0;
     }
-    let at = position * 7;
+    let at = position * limits::AVP_NUMBERS;
     let start = log[at + 5];
     let end = log[at + 6];
     if end < start {
@@ -111,19 +112,19 @@ pub fn data_end(log: &[u32; limits::LOG_NUMBERS], position: usize) -> u32
 pub fn depth_at(log: &[u32; limits::LOG_NUMBERS], position: usize) -> u32
     ensures { λ r. ⌜ r ≡ avpOf (now (log .entry)) position .depth ⌝ }
 {
-    if 256 <= position {
+    if limits::MOST_AVPS <= position {
         return 0;
     }
-    log[position * 7]
+    log[position * limits::AVP_NUMBERS]
 }
 
 // Whether the AVP at a position has a vendor and code. A search asks this first, and reads no more of an AVP of another name.
 pub fn is_named(log: &[u32; limits::LOG_NUMBERS], position: usize, vendor: u32, code: u32) -> bool
     ensures { λ r. ⌜ r ≡ named (avpOf (now (log .entry)) position) vendor code ⌝ }
 {
-    if 256 <= position {
+    if limits::MOST_AVPS <= position {
         return avp::is_named(avp::blank(), vendor, code);
     }
-    let at = position * 7;
+    let at = position * limits::AVP_NUMBERS;
     avp::is_same_name(log[at + 1], log[at + 2], vendor, code)
 }

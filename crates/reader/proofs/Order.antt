@@ -10,7 +10,7 @@ use Rattle.rules.specs.declared.Outcome.{Outcome}
 use Rattle.rules.specs.declared.Outcome.the-variants.{Pass, Refused}
 use Rattle.rules.specs.declared.Record.{Record}
 use Rattle.rules.specs.declared.Reading.{Reading}
-use Rattle.rules.specs.Verdict.{verdict}
+use Rattle.rules.specs.Verdict.{verdict, verdictOf}
 use Rattle.rules.specs.Header.{headerOutcome}
 use Rattle.rules.specs.Walk.{Walked, whole, stopped, avpsOf}
 use Rattle.rules.specs.Command.{walkOf, listsOutcome, walkedOutcome, commandOutcome, commandVerdict}
@@ -98,6 +98,10 @@ module _ (s : List ℕ) where
           }
 
   -- ---- verdict and record
+
+  pub verdict-told : (o : Outcome) → o ≡ commandOutcome s → verdictOf o ≡ commandVerdict s
+  unfolding commandVerdict
+  verdict-told o e = ap verdictOf e
 
   pub verdict-accepted : commandOutcome s ≡ Pass → verdict 0 0 0 0 ≡ commandVerdict s
   unfolding commandVerdict

@@ -7,8 +7,9 @@ use Rattle.rules.specs.declared.Avp.{Avp}
 use Rattle.rules.specs.declared.Verdict.{Verdict}
 use Rattle.rules.specs.declared.Outcome.{Outcome}
 use Rattle.rules.specs.declared.Outcome.the-variants.{Pass, Refused}
-use Rattle.rules.specs.Header.{headerOutcome}
-use Rattle.rules.specs.Walk.{avpsOf}
+use Rattle.rules.specs.Verdict.{verdictOf}
+use Rattle.rules.specs.Header.{headerSize, headerOutcome}
+use Rattle.rules.specs.Walk.{mostAvps, avpsOf}
 use Rattle.rules.specs.Command.{walkOf, commandOutcome, commandVerdict}
 use Rattle.log.specs.Log.{avpsIn, written}
 use Rattle.reader.specs.declared.Judgement.{Judgement}
@@ -26,13 +27,14 @@ logAfter s before = written before 0 (metBy s (headerOutcome s))
 pub record IsJudged (s before : List ℕ) (r : Judgement) (after : List ℕ) : Type 0 where
   pub outcome : r .outcome ≡ commandOutcome s
   pub left : after ≡ logAfter s before
-  pub long : commandOutcome s ≡ Pass → 20 ≤ length s
-  pub few : commandOutcome s ≡ Pass → r .count ≤ 256
+  pub long : commandOutcome s ≡ Pass → headerSize ≤ length s
+  pub few : commandOutcome s ≡ Pass → r .count ≤ mostAvps
   pub avps : commandOutcome s ≡ Pass → avpsIn after (r .count) ≡ avpsOf (walkOf s)
 
 -- what `outcome` gives
 pub record Settled (s before : List ℕ) (r : Outcome) (after : List ℕ) : Type 0 where
   pub answer : r ≡ commandOutcome s
+  pub told : verdictOf r ≡ commandVerdict s
   pub left : after ≡ logAfter s before
 
 -- what `verdict` gives

@@ -2,6 +2,7 @@
 ghost use mathlib.Core.Path.{_≡_};
 ghost use Prim.Native.Nat.{_≤_};
 ghost use lib.ListN.{length};
+ghost use Rattle.rules.specs.Header.{headerSize, longestCommand};
 ghost use Rattle.rules.specs.Command.{commandGrammar, listsOutcome};
 ghost use Rattle.log.specs.Log.{avpsIn};
 ghost use Rattle.reader.specs.Promise.{IsJudged};
@@ -26,7 +27,7 @@ fn command_grammar(flags: u8) -> Grammar
 
 // Rows and exchange rules over the AVPs of a log.
 fn lists_outcome(s: &[u8], log: &[u32; limits::LOG_NUMBERS], count: usize) -> Outcome
-    requires { ⌜ (20 ≤ length (now s)) × (length (now s) ≤ 16384) ⌝ }
+    requires { ⌜ (headerSize ≤ length (now s)) × (length (now s) ≤ longestCommand) ⌝ }
     ensures { λ r. ⌜ r ≡ listsOutcome (now (s .entry)) (avpsIn (now (log .entry)) count) ⌝ }
 {
     let flags = s[4];

@@ -5,8 +5,11 @@ ghost use denote.Ref.{ptr};
 ghost use mathlib.Core.Bool.{_&&_};
 ghost use lib.Dec.{eqb};
 ghost use lib.ListN.{length, replicate};
-ghost use Rattle.rules.specs.Search.{blank};
+ghost use Rattle.rules.specs.Verdict.{Answers};
+ghost use Rattle.rules.specs.Search.{blank, positionOf};
 ghost use Rattle.rules.specs.Avp.{named};
+ghost use Rattle.rules.specs.Header.{headerSize};
+ghost use Rattle.rules.specs.Walk.{mostAvps};
 ghost use Rattle.rules.specs.Record.{inRoom, recordOf, emptyRecord, dataStart, dataAt, searchRecord};
 ghost use Rattle.log.specs.Log.{avpsIn};
 use octets::has_flag;
@@ -17,16 +20,16 @@ use rules::flags;
 use rules::limits;
 
 // An array of 256 blank places.
-fn blank_avps() -> [Avp; 256]
-    ensures { λ r. ⌜ r ≡ replicate 256 blank ⌝ }
+fn blank_avps() -> [Avp; limits::MOST_AVPS]
+    ensures { λ r. ⌜ r ≡ replicate mostAvps blank ⌝ }
 {
     let blank = avp::blank();
-    [blank; 256]
+    [blank; limits::MOST_AVPS]
 }
 
 // The AVPs of a log in room for 256.
-fn avps_of(log: &[u32; limits::LOG_NUMBERS], count: usize) -> [Avp; 256]
-    requires { ⌜ count ≤ 256 ⌝ }
+fn avps_of(log: &[u32; limits::LOG_NUMBERS], count: usize) -> [Avp; limits::MOST_AVPS]
+    requires { ⌜ count ≤ mostAvps ⌝ }
     ensures { λ r. ⌜ r ≡ inRoom (avpsIn (now (log .entry)) count) ⌝ }
 {
     let mut avps = blank_avps();
@@ -56,7 +59,7 @@ pub(crate) fn empty_record() -> Record
 
 // The record of a command whose AVPs stand in a log.
 pub(crate) fn record_of(s: &[u8], log: &[u32; limits::LOG_NUMBERS], count: usize) -> Record
-    requires { ⌜ (20 ≤ length (now s)) × (count ≤ 256) ⌝ }
+    requires { ⌜ (headerSize ≤ length (now s)) × (count ≤ mostAvps) ⌝ }
     ensures { λ r. ⌜ r ≡ recordOf (now (s .entry)) (avpsIn (now (log .entry)) count) ⌝ }
 {
     let flags = s[4];
@@ -112,7 +115,7 @@ pub fn data<'a>(record: Record, position: usize, s: &'a [u8]) -> &'a [u8]
 
 // The position of the first AVP at depth 1 with a vendor and code.
 pub fn search(record: Record, vendor: u32, code: u32) -> Found
-    ensures { λ r. ⌜ r ≡ searchRecord «record» vendor code ⌝ }
+    ensures { λ r. ⌜ Answers positionOf (searchRecord «record» vendor code) r ⌝ }
 {
     let count = record.count as usize;
     let mut i: usize = 0;

@@ -4,9 +4,11 @@ ghost use mathlib.Core.Path.{_≡_};
 ghost use mathlib.Core.Bool.{cond};
 ghost use Prim.Native.Nat.{_+_, _≤_, _<_};
 ghost use lib.ListN.{drop};
+ghost use Rattle.rules.specs.Verdict.{verdictOf, Answers};
 ghost use Rattle.rules.specs.Rows.{admitsOthers};
 ghost use Rattle.rules.specs.Dictionary.{dictionary};
 ghost use Rattle.rules.specs.RowChecks.{countedAt, memberFault, listOutcome, groupsOutcome, rowsOutcome};
+ghost use Rattle.rules.specs.Walk.{mostAvps};
 ghost use Rattle.log.specs.Log.{avpOf, avpsIn};
 ghost use Rattle.rows.specs.Counts.{HasRoom};
 ghost use Rattle.rows.specs.Groups.{groupAt};
@@ -52,7 +54,7 @@ fn list_outcome(
     depth: usize,
     end: u32,
 ) -> Outcome
-    requires { ⌜ count ≤ 256 ⌝ }
+    requires { ⌜ count ≤ mostAvps ⌝ }
     ensures { λ r. ⌜ r ≡ listOutcome grammar depth end (drop from (avpsIn (now (log .entry)) count)) ⌝ }
 {
     let mut counts = [0u16; 24];
@@ -89,7 +91,7 @@ fn list_outcome(
 
 // The AVP at a position with those after it: where it is a group, its list.
 fn group_outcome(log: &[u32; limits::LOG_NUMBERS], position: usize, count: usize) -> Outcome
-    requires { ⌜ (position < count) × (count ≤ 256) ⌝ }
+    requires { ⌜ (position < count) × (count ≤ mostAvps) ⌝ }
     ensures { λ r. ⌜ r ≡ groupAt (avpOf (now (log .entry)) position) (drop (position + 1) (avpsIn (now (log .entry)) count)) ⌝ }
 {
     let a = log::get(log, position);
@@ -103,7 +105,7 @@ fn group_outcome(log: &[u32; limits::LOG_NUMBERS], position: usize, count: usize
 
 // Each group in walk order.
 fn groups_outcome(log: &[u32; limits::LOG_NUMBERS], count: usize) -> Outcome
-    requires { ⌜ count ≤ 256 ⌝ }
+    requires { ⌜ count ≤ mostAvps ⌝ }
     ensures { λ r. ⌜ r ≡ groupsOutcome dictionary (avpsIn (now (log .entry)) count) ⌝ }
 {
     let mut i: usize = 0;
@@ -120,7 +122,7 @@ fn groups_outcome(log: &[u32; limits::LOG_NUMBERS], count: usize) -> Outcome
 // The row checks of a command whose AVPs stand in a log with this count, above 256 read as 256, and whose own list ends at
 // `end`.
 pub fn judge(log: &[u32; limits::LOG_NUMBERS], count: usize, grammar: Grammar, end: u32) -> Outcome
-    ensures { λ r. ⌜ r ≡ rowsOutcome dictionary grammar end (avpsIn (now (log .entry)) count) ⌝ }
+    ensures { λ r. ⌜ Answers verdictOf (rowsOutcome dictionary grammar end (avpsIn (now (log .entry)) count)) r ⌝ }
 {
     let used = log::used(count);
     let own = list_outcome(log, 0, used, grammar, 1, end);

@@ -11,8 +11,9 @@ use Rattle.rules.specs.declared.Definition.{Definition}
 use Rattle.rules.specs.declared.Definition.the-variants.{Known, Unknown}
 use Rattle.rules.specs.declared.Members.{Members}
 use Rattle.rules.specs.declared.Members.the-variants.{Under, NoMembers}
-use Rattle.rules.specs.Header.{vendor3GPP}
-use Rattle.rules.specs.declared.Grammar.the-variants.{VendorSpecificApplicationId, ExperimentalResult, ProxyInfo, SupportedFeatures, TimeWindow, TransferPolicy}
+use Rattle.rules.specs.declared.Grammar.{Grammar}
+use Rattle.rules.specs.Header.{codeBackgroundDataTransfer, vendor3GPP}
+use Rattle.rules.specs.declared.Grammar.the-variants.{Request, Answer, VendorSpecificApplicationId, ExperimentalResult, ProxyInfo, SupportedFeatures, TimeWindow, TransferPolicy}
 
 -- an entry: the name, whether M must be set, and the form of the data
 pub record Entry : Type 0 where
@@ -98,3 +99,36 @@ fitsForm (Group g) length = true
 abbrev pub fitsWidth : Definition → ℕ → Bool
 fitsWidth (Known m form) length = fitsForm form length
 fitsWidth Unknown length = true
+
+-- 01's number of a list: the code of the group, for a command's own list that of the command
+abbrev pub listNumber : Grammar → ℕ
+listNumber Request = codeBackgroundDataTransfer
+listNumber Answer = codeBackgroundDataTransfer
+listNumber VendorSpecificApplicationId = 260
+listNumber ExperimentalResult = 297
+listNumber ProxyInfo = 284
+listNumber SupportedFeatures = 628
+listNumber TimeWindow = 4204
+listNumber TransferPolicy = 4207
+
+-- the number of the list by whose rows members go, 0 for no members
+abbrev pub rowsNumber : Members → ℕ
+rowsNumber (Under g) = listNumber g
+rowsNumber NoMembers = 0
+
+-- the width of data, 0 where any length passes
+abbrev pub widthOf : Form → ℕ
+widthOf Any = 0
+widthOf (Fixed w) = w
+widthOf (Group g) = 0
+
+-- what 01 prints of a name: whether M must be set, the width, and for a group the number of its list
+pub record Printed : Type 0 where
+  pub known : Bool
+  pub m : Bool
+  pub width : ℕ
+  pub rows : ℕ
+
+abbrev pub printed : Definition → Printed
+printed (Known m form) = record { known = true; m = m; width = widthOf form; rows = rowsNumber (membersIn form) }
+printed Unknown = record { known = false; m = false; width = 0; rows = 0 }

@@ -8,6 +8,7 @@ use Rattle.rules.specs.declared.Avp.{Avp}
 use Rattle.rules.specs.declared.Found.{Found}
 use Rattle.rules.specs.declared.Found.the-variants.{At, Nothing}
 use Rattle.rules.specs.Avp.{named}
+use Rattle.rules.specs.Walk.{mostAvps}
 
 -- an unused place: all numbers 0
 abbrev pub blank : Avp
@@ -35,3 +36,8 @@ search xs vendor code = firstFrom 0 0 1 xs vendor code
 -- the first member of the group at position i, whose members stand at this depth
 abbrev pub member : List Avp → ℕ → ℕ → ℕ → ℕ → Found
 member xs i depth vendor code = firstFrom (i + 1) depth depth (drop (i + 1) xs) vendor code
+
+-- the answer of a search as a number: the position, and the number of places for none
+abbrev pub positionOf : Found → ℕ
+positionOf (At i) = i
+positionOf Nothing = mostAvps

@@ -1,6 +1,7 @@
 -- `avp::member_fault` meets its contract.
 use borrow.Author.Needs.{needs}
 use mathlib.Core.Path.{_∙_}
+use Rattle.rules.proofs.Outcomes.{answers}
 use Rattle.avp.proofs.member_fault.Statement.{statement}
 use Rattle.avp.proofs.member_fault.Tie as tie
 
@@ -11,7 +12,7 @@ refusal-requires : tie.Need-refusal-requires
 refusal-requires c κs = search needs
 
 returns : tie.Need-returns
-returns c = c .refusal .ensures ∙ rw (c .before .place-of .ensures)
+returns c = answers _ _ _ (c .refusal .ensures .is ∙ rw (c .before .place-of .ensures))
 
 pub member-fault-spec : {M : Type 1} → statement M
 member-fault-spec = tie.close (tie.spec place-of-requires refusal-requires returns)

@@ -4,6 +4,7 @@ use mathlib.Core.Path.{_∙_}
 use mathlib.Core.List.{[], _∷_}
 use Rattle.rules.specs.Dictionary.{dictionary}
 use Rattle.rules.proofs.Names.{find-absent-vendor}
+use Rattle.rules.proofs.Outcomes.{answers}
 use Rattle.dictionary.proofs.definition.Statement.{statement}
 use Rattle.dictionary.proofs.definition.Tie as tie
 
@@ -14,14 +15,14 @@ definition-of-3gpp-requires : tie.Need-definition-of-3gpp-requires
 definition-of-3gpp-requires c κs = search needs
 
 returns : tie.Need-returns
-returns c = c .definition-without-vendor .ensures ∙ rw (c .before .match .keys1)
+returns c = answers _ _ _ (c .definition-without-vendor .ensures ∙ rw (c .before .match .keys1))
 
 returns-2 : tie.Need-returns-2
-returns-2 c = c .definition-of-3gpp .ensures ∙ rw (c .before .match .keys2)
+returns-2 c = answers _ _ _ (c .definition-of-3gpp .ensures ∙ rw (c .before .match .keys2))
 
 returns-3 : tie.Need-returns-3
 unfolding dictionary
-returns-3 c = find-absent-vendor dictionary (10415 ∷ 0 ∷ []) _ (c .before .args .code) tt (c .match .rest)
+returns-3 c = answers _ _ _ (find-absent-vendor dictionary (10415 ∷ 0 ∷ []) _ (c .before .args .code) tt (c .match .rest))
 
 pub definition-spec : {M : Type 1} → statement M
 definition-spec =

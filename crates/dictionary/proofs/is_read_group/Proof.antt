@@ -14,10 +14,10 @@ enum-told-2 : tie.Need-enum-told-2
 enum-told-2 c = search needs
 
 returns : tie.Need-returns
-returns c = rw (sym (c .before .before .members .ensures) ∙ c .enum-told2 .given .1)
+returns c = rw (sym (c .before .before .members .ensures .is) ∙ c .enum-told2 .given .1)
 
 returns-2 : tie.Need-returns-2
-returns-2 c = rw (sym (c .before .before .members .ensures) ∙ c .enum-told .given .1)
+returns-2 c = rw (sym (c .before .before .members .ensures .is) ∙ c .enum-told .given .1)
 
 pub is-read-group-spec : {M : Type 1} → statement M
 is-read-group-spec = tie.close (tie.spec members-requires enum-told enum-told-2 returns returns-2)

@@ -21,7 +21,7 @@ found : (c : tie.After-members) →
     let s = c .before .before .args in
     let xs = drop (s .position + 1) (avpsIn (s .log .now) (s .count)) in
     groupOutcome (c .members .result) (c .before .get .result) xs ≡ groupAt (avpOf (s .log .now) (s .position)) xs
-found c = rw (c .members .ensures, c .before .get .ensures)
+found c = rw (c .members .ensures .is, c .before .get .ensures)
 
 enum-known-grammar : tie.Need-enum-known-grammar
 enum-known-grammar c = search needs

@@ -7,7 +7,7 @@ use Rattle.rules.specs.Dictionary.{dictionary}
 use Rattle.rules.specs.RowChecks.{groupsOutcome, rowsOutcome}
 use Rattle.log.specs.Log.{avpsIn}
 use Rattle.log.proofs.Log.{avps-used}
-use Rattle.rules.proofs.Outcomes.{refused-first, pass-first}
+use Rattle.rules.proofs.Outcomes.{refused-first, pass-first, answers}
 use Rattle.rows.proofs.Members.{rows-next}
 use Rattle.rows.proofs.judge.Statement.{statement}
 use Rattle.rows.proofs.judge.Tie as tie
@@ -31,7 +31,7 @@ enum-told : tie.Need-enum-told
 enum-told c = search needs
 
 returns : tie.Need-returns
-returns c = sym (refused-first _ _ (c .enum-told .given .1)) ∙ own (c .before .before)
+returns c = answers _ _ _ (sym (refused-first _ _ (c .enum-told .given .1)) ∙ own (c .before .before))
 
 enum-told-2 : tie.Need-enum-told-2
 enum-told-2 c = search needs
@@ -41,7 +41,8 @@ groups-outcome-requires c κs = omega (arith, c .before .before .before .used .e
 
 returns-2 : tie.Need-returns-2
 returns-2 c =
-    c .groups-outcome .ensures ∙ sym (pass-first _ _ (c .before .enum-told2 .given .1)) ∙ own (c .before .before .before)
+    answers _ _ _
+    (c .groups-outcome .ensures ∙ sym (pass-first _ _ (c .before .enum-told2 .given .1)) ∙ own (c .before .before .before))
 
 pub judge-spec : {M : Type 1} → statement M
 judge-spec =

@@ -14,7 +14,7 @@ member-fault-requires : tie.Need-member-fault-requires
 member-fault-requires c κs = search needs
 
 returns-2 : tie.Need-returns-2
-returns-2 c = rw (sym (c .before .before .admits-others .ensures) ∙ c .before .if1 .left) (c .member-fault .ensures)
+returns-2 c = rw (sym (c .before .before .admits-others .ensures) ∙ c .before .if1 .left) (c .member-fault .ensures .is)
 
 pub without-row-spec : {M : Type 1} → statement M
 without-row-spec =

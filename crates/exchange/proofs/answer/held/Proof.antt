@@ -23,7 +23,7 @@ refusal-requires c κs = search needs
 returns : tie.Need-returns
 returns c =
     let f = c .before .before .before .before in
-    (rw (c .before .end-at .ensures) at (c .refusal .ensures))
+    (rw (c .before .end-at .ensures) at (c .refusal .ensures .is))
     ∙ present-nothing _ _ _ _ (sym (f .member .ensures .is) ∙ c .before .before .enum-told2 .given .1)
 
 returns-2 : tie.Need-returns-2

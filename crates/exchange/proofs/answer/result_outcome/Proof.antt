@@ -58,7 +58,7 @@ returns-3 c =
     let at = avps-at (s .args .log .now) (s .args .count) _ (s .pre) (f .search .ensures .used _ (k .i .given .1)) in
     let experimental = sym (f .search .ensures .is) ∙ k .i .given .1 in
     let plain = sym (g .search2 .ensures .is) ∙ h .enum-told2 .given .1 in
-    c .member-fault .ensures ∙ ap (memberFault 5008) (c .before .get .ensures ∙ sym at) ∙ result-both _ _ _ _ experimental plain
+    c .member-fault .ensures .is ∙ ap (memberFault 5008) (c .before .get .ensures ∙ sym at) ∙ result-both _ _ _ _ experimental plain
 
 pub result-outcome-spec : {M : Type 1} → statement M
 result-outcome-spec =

@@ -20,7 +20,7 @@ refusal-requires c κs = search needs
 returns : tie.Need-returns
 returns c =
     let f = c .before .before .before in
-    c .refusal .ensures ∙ request-untyped _ _ _ (sym (f .search .ensures .is) ∙ c .before .enum-told .given .1)
+    c .refusal .ensures .is ∙ request-untyped _ _ _ (sym (f .search .ensures .is) ∙ c .before .enum-told .given .1)
 
 number-of-requires : tie.Need-number-of-requires
 number-of-requires c κs =

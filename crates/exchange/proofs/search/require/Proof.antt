@@ -20,7 +20,7 @@ refusal-requires c κs = search needs
 returns : tie.Need-returns
 returns c =
     let f = c .before .before .before in
-    c .refusal .ensures ∙ present-nothing _ _ _ _ (sym (f .search .ensures .is) ∙ c .before .enum-told2 .given .1)
+    c .refusal .ensures .is ∙ present-nothing _ _ _ _ (sym (f .search .ensures .is) ∙ c .before .enum-told2 .given .1)
 
 returns-2 : tie.Need-returns-2
 returns-2 c = present-at _ _ _ _ _ (sym (c .before .before .search .ensures .is) ∙ c .enum-told .given .1)

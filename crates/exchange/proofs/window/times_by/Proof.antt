@@ -38,7 +38,7 @@ returns-2 c =
     let order = sym (b .is-before .ensures) ∙ e .if1 .left in
     let at = avps-at (a .log .now) (a .count) (a .end) (s .pre .1 .room) (s .pre .1 .used) in
     rw (← n .before .number-of .ensures, ← n .number-of2 .ensures, order)
-    (c .member-fault .ensures ∙ ap (memberFault 5004) (c .before .get .ensures ∙ sym at))
+    (c .member-fault .ensures .is ∙ ap (memberFault 5004) (c .before .get .ensures ∙ sym at))
 
 pub times-by-spec : {M : Type 1} → statement M
 times-by-spec =

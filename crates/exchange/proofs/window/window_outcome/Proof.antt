@@ -23,7 +23,7 @@ refusal-requires c κs = search needs
 returns : tie.Need-returns
 returns c =
     let t = c .before .before in
-    (rw (c .before .end-at .ensures) at (c .refusal .ensures))
+    (rw (c .before .end-at .ensures) at (c .refusal .ensures .is))
     ∙ window-no-start _ _ _ _ (sym (t .before .before .member .ensures .is) ∙ t .enum-told .given .1)
 
 member-requires-2 : tie.Need-member-requires-2
@@ -49,7 +49,7 @@ returns-2 c =
     let f = k .before .before in
     let start = sym (f .member .ensures .is) ∙ k .start .given .1 in
     let end = sym (g .member2 .ensures .is) ∙ t .enum-told2 .given .1 in
-    (rw (c .before .end-at2 .ensures) at (c .refusal2 .ensures)) ∙ window-no-end _ _ _ _ _ start end
+    (rw (c .before .end-at2 .ensures) at (c .refusal2 .ensures .is)) ∙ window-no-end _ _ _ _ _ start end
 
 times-by-requires : tie.Need-times-by-requires
 times-by-requires c κs =

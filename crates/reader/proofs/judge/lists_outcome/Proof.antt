@@ -39,7 +39,7 @@ returns c =
     let s = a .s .now in
     let xs = avpsIn (a .log .now) (a .count) in
     let e : j .judge .result ≡ rowsOutcome dictionary (commandGrammar (commandFlags s)) (length s) xs =
-    j .judge .ensures ∙ rw (j .before .command-grammar .ensures) in
+    j .judge .ensures .is ∙ rw (j .before .command-grammar .ensures) in
     e ∙ sym (refused-first (rowsOutcome dictionary (commandGrammar (commandFlags s)) (length s) xs) (exchangeOutcome (isRequest (commandFlags s)) xs s (length s)) (sym e ∙ c .enum-told2 .given .1))
 
 has-flag-requires : tie.Need-has-flag-requires
@@ -57,8 +57,8 @@ returns-2 c =
     let s = a .s .now in
     let xs = avpsIn (a .log .now) (a .count) in
     let e : j .judge .result ≡ rowsOutcome dictionary (commandGrammar (commandFlags s)) (length s) xs =
-    j .judge .ensures ∙ rw (j .before .command-grammar .ensures) in
-    c .judge2 .ensures
+    j .judge .ensures .is ∙ rw (j .before .command-grammar .ensures) in
+    c .judge2 .ensures .is
     ∙ ap (λ (request : Bool). exchangeOutcome request xs s (length s)) (f .has-flag .ensures)
     ∙ sym (pass-first (rowsOutcome dictionary (commandGrammar (commandFlags s)) (length s) xs) (exchangeOutcome (isRequest (commandFlags s)) xs s (length s)) (sym e ∙ f .before .enum-told .given .1))
 

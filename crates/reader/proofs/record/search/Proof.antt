@@ -5,6 +5,7 @@ use Prim.Native.Nat.{_≤_, _-_}
 use native.Mathlib.Omega.{arith}
 use lib.ListN.{length}
 use Rattle.rules.specs.Record.{searchRecord}
+use Rattle.rules.proofs.Outcomes.{answers}
 use Rattle.reader.proofs.Places.{length-mapped, searchLeft, search-all, search-end, search-here, search-later}
 use Rattle.reader.proofs.record.search.Statement.{statement}
 use Rattle.reader.proofs.record.search.Tie as tie
@@ -30,7 +31,8 @@ returns c =
     let st = c .before .before .before in
     let a = st .args in
     let f = full st in
-    sym (search-end (a .t1) f (a .vendor) (a .code) (l .i) (omega (arith, l .inv .1 .0, c .if1 .taken))) ∙ l .inv .1 .1 f
+    answers _ _ _
+    (sym (search-end (a .t1) f (a .vendor) (a .code) (l .i) (omega (arith, l .inv .1 .0, c .if1 .taken))) ∙ l .inv .1 .1 f)
 
 mul-a : tie.Need-mul-a Inv-loop μ-loop
 mul-a c = omega arith
@@ -48,8 +50,9 @@ returns-2 c =
     let st = e .before .before .before in
     let a = st .args in
     let f = full st in
-    sym (search-here (a .t1) f (a .vendor) (a .code) (l .i) (omega (arith, e, e .before, l .inv .1 .0)) (sym (c .before .is-found .ensures) ∙ c .if2 .taken))
-    ∙ l .inv .1 .1 f
+    answers _ _ _
+    (sym (search-here (a .t1) f (a .vendor) (a .code) (l .i) (omega (arith, e, e .before, l .inv .1 .0)) (sym (c .before .is-found .ensures) ∙ c .if2 .taken))
+    ∙ l .inv .1 .1 f)
 
 add-i : tie.Need-add-i Inv-loop μ-loop
 add-i c = omega arith
@@ -78,7 +81,8 @@ returns-3 c =
     let st = c .before .before in
     let a = st .args in
     let f = full st in
-    sym (search-end (a .t1) f (a .vendor) (a .code) (l .i) (omega (arith, c .loop-test .left))) ∙ l .inv .1 .1 f
+    answers _ _ _
+    (sym (search-end (a .t1) f (a .vendor) (a .code) (l .i) (omega (arith, c .loop-test .left))) ∙ l .inv .1 .1 f)
 
 pub search-spec : {M : Type 1} → statement M
 search-spec =

@@ -7,7 +7,7 @@ member-fault-requires : tie.Need-member-fault-requires
 member-fault-requires c κs = search needs
 
 returns : tie.Need-returns
-returns c = rw (c .before .if1 .taken) (c .member-fault .ensures)
+returns c = rw (c .before .if1 .taken) (c .member-fault .ensures .is)
 
 returns-2 : tie.Need-returns-2
 returns-2 c = search needs

@@ -53,7 +53,7 @@ returns-2 c =
     let n = c .before .before .before .before in
     let r = n .before .before in
     let l = r .before .before .loop in
-    c .refusal .ensures
+    c .refusal .ensures .is
     ∙ sym (missing-here _ _ _ (l .k) _ _ _ (sym (n .next .given .1) ∙ r .required .ensures) (c .before .if1 .taken))
     ∙ l .inv
 

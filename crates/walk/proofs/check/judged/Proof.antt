@@ -16,7 +16,7 @@ enum-known-outcome c = search needs
 returns : tie.Need-returns
 returns c =
     let x = c .before .before .before in
-    rw (← x .before .definition .ensures, sym (x .content .ensures) ∙ c .before .outcome .given .1)
+    rw (← x .before .definition .ensures .is, sym (x .content .ensures) ∙ c .before .outcome .given .1)
 
 enum-told : tie.Need-enum-told
 enum-told c = search needs
@@ -28,13 +28,13 @@ returns-2 : tie.Need-returns-2
 returns-2 c =
     let t = c .before .before in
     let x = t .before .before in
-    rw (← x .before .definition .ensures, sym (x .content .ensures) ∙ t .enum-told .given .1, sym (c .before .is-group .ensures) ∙ c .if1 .taken)
+    rw (← x .before .definition .ensures .is, sym (x .content .ensures) ∙ t .enum-told .given .1, sym (c .before .is-group .ensures) ∙ c .if1 .taken)
 
 returns-3 : tie.Need-returns-3
 returns-3 c =
     let t = c .before .before in
     let x = t .before .before in
-    rw (← x .before .definition .ensures, sym (x .content .ensures) ∙ t .enum-told .given .1, sym (c .before .is-group .ensures) ∙ c .if1 .left)
+    rw (← x .before .definition .ensures .is, sym (x .content .ensures) ∙ t .enum-told .given .1, sym (c .before .is-group .ensures) ∙ c .if1 .left)
 
 pub judged-spec : {M : Type 1} → statement M
 judged-spec =
