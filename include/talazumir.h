@@ -21,7 +21,7 @@ extern "C" {
 /* The answer of a search that finds nothing. */
 #define TALAZUMIR_NONE 256
 
-/* The numbers of a log, seven for each AVP: depth, vendor, code, M, P, and the start and the end of the data. */
+/* The numbers of a log, the scratch memory of a verdict. */
 #define TALAZUMIR_LOG_NUMBERS 1792
 
 /* The numbers of a record: seven for the command, then seven for each of 256 positions. */
@@ -84,8 +84,9 @@ struct TalazumirPart {
     size_t length;
 };
 
-/* The verdict of the command that is the whole slice. The log is written from its first number on with the AVPs that the
- * walk met, up to a fault (none where the header is refused); its other numbers stay as they were. */
+/* The verdict of the command that is the whole slice. The log is scratch memory: whatever it holds before plays no part, and
+ * what it holds afterwards is no record, after a refusal least of all; talazumir_read gives the record. It is written from its
+ * first number on, and its numbers behind what is written stay as they were. */
 struct TalazumirVerdict talazumir_verdict(const uint8_t *octets, size_t length, uint32_t log[TALAZUMIR_LOG_NUMBERS]);
 
 /* The verdict of the command that is the whole slice, and its record. All 1,799 numbers are written; with a refusal all
