@@ -76,9 +76,7 @@ module _ (d : Draft) (out : List ℕ) where
 
   -- what the call wrote is as long as the answer says, and what it leaves is the rest of the output
   pub front-long : length (front d out) ≡ writing d out .length
-  front-long =
-      let l = length-take (writing d out .length) (outputAfter d out) in
-      omega (arith, length-told, output-long, room-enough d (length out))
+  front-long = simp length-take (omega (arith, length-told, output-long, room-enough d (length out)))
 
   rest-long : length (rest d out) ≡ length out - writing d out .length
   rest-long = omega (arith, length-drop (writing d out .length) (outputAfter d out), output-long)
