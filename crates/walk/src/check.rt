@@ -14,11 +14,13 @@ ghost use Rattle.walk.specs.Promise.{InList};
 use crate::frame;
 use crate::frame::Frame;
 use avp::is_named;
+use octets::has_flag;
 use rules::Avp;
 use rules::Checked;
 use rules::Definition;
 use rules::Form;
 use rules::Outcome;
+use rules::flags;
 use rules::kinds::AuthSessionState;
 use rules::kinds::TransferRequestType;
 use rules::limits;
@@ -49,11 +51,10 @@ fn is_group(d: Definition) -> bool
 fn has_vendor_zero(flags: u8, vendor: u32) -> bool
     ensures { λ r. ⌜ r ≡ (flagV flags && eqb vendor 0) ⌝ }
 {
-    let v = flags / 128 % 2;
-    if v != 1 {
-        return false;
+    if has_flag(flags, flags::VENDOR) {
+        return vendor == 0;
     }
-    vendor == 0
+    false
 }
 
 // Check 3.

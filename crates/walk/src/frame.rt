@@ -7,9 +7,11 @@ ghost use Rattle.rules.specs.Header.{longestCommand};
 ghost use Rattle.rules.specs.Avp.{avpAt};
 ghost use Rattle.rules.specs.Walk.{framing};
 ghost use Rattle.walk.specs.Promise.{InList, frameOf, misfit, avpBy, nextAfter};
+use octets::has_flag;
 use octets::padded_length;
 use rules::Avp;
 use rules::Verdict;
+use rules::flags;
 use rules::limits;
 
 // What check 2 gives: the AVP that its list holds, or the fault.
@@ -64,14 +66,12 @@ fn avp_by(
     requires { ⌜ (at ≤ longestCommand) × (header ≤ length) × (length < 256 ^ 3) ⌝ }
     ensures { λ r. ⌜ r ≡ avpBy at depth header vendor code flags length ⌝ }
 {
-    let m = flags / 64 % 2;
-    let p = flags / 32 % 2;
     Avp {
         depth,
         vendor,
         code,
-        m: m == 1,
-        p: p == 1,
+        m: has_flag(flags, flags::MANDATORY),
+        p: has_flag(flags, flags::PROTECTED),
         start: (at + header) as u32,
         length: length - header as u32,
     }
@@ -92,8 +92,7 @@ pub(crate) fn framed(s: &[u8], at: usize, end: usize, depth: u32) -> Frame
     let code = octets::number4(rest, 0);
     let flags = rest[4];
     let length = octets::number3(rest, 5);
-    let v = flags / 128 % 2;
-    if v != 1 {
+    if !has_flag(flags, flags::VENDOR) {
         if misfits(left, limits::AVP_HEADER_SIZE, length) {
             return Frame::Broken(fault(5014, at, 0, code));
         }

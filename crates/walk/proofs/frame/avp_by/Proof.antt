@@ -1,23 +1,30 @@
 -- `walk::frame::avp_by` meets its contract.
 use borrow.Author.Needs.{needs}
-use mathlib.Core.Path.{refl}
 use Rattle.walk.proofs.frame.avp_by.Statement.{statement}
 use Rattle.walk.proofs.frame.avp_by.Tie as tie
 
-add-t13 : tie.Need-add-t13
-add-t13 c = search needs
+has-flag-requires : tie.Need-has-flag-requires
+has-flag-requires c κs = search needs
 
-cast-t14 : tie.Need-cast-t14
-cast-t14 c = search needs
+has-flag-requires-2 : tie.Need-has-flag-requires-2
+has-flag-requires-2 c κs = search needs
 
-cast-t15 : tie.Need-cast-t15
-cast-t15 c = search needs
+add-t10 : tie.Need-add-t10
+add-t10 c = search needs
 
-sub-t16 : tie.Need-sub-t16
-sub-t16 c = search needs
+cast-t11 : tie.Need-cast-t11
+cast-t11 c = search needs
+
+cast-t12 : tie.Need-cast-t12
+cast-t12 c = search needs
+
+sub-t13 : tie.Need-sub-t13
+sub-t13 c = search needs
 
 returns : tie.Need-returns
-returns c = refl
+returns c = rw (c .before .has-flag .ensures, c .has-flag2 .ensures)
 
 pub avp-by-spec : {M : Type 1} → statement M
-avp-by-spec = tie.close (tie.spec add-t13 cast-t14 cast-t15 sub-t16 returns)
+avp-by-spec =
+    tie.close
+    (tie.spec has-flag-requires has-flag-requires-2 add-t10 cast-t11 cast-t12 sub-t13 returns)

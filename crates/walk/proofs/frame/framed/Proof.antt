@@ -4,7 +4,7 @@ use mathlib.Core.Path.{_≡_, sym, ap, _∙_}
 use mathlib.Core.Bool.{Bool, true, false}
 use Prim.Native.Nat.{ℕ, _≤_}
 use native.Mathlib.Omega.{arith}
-use borrow.Author.Tests.{eq-eqb, ne-eqb}
+use borrow.Author.Tests.{not-true, not-false}
 use lib.ListN.{getD}
 use Rattle.rules.specs.Verdict.{verdict}
 use Rattle.rules.specs.Avp.{avpAt}
@@ -42,6 +42,9 @@ shared-slice-read-flags c = search needs
 number3-requires : tie.Need-number3-requires
 number3-requires c κs = search needs
 
+has-flag-requires : tie.Need-has-flag-requires
+has-flag-requires c κs = search needs
+
 misfits-requires : tie.Need-misfits-requires
 misfits-requires c κs = search needs
 
@@ -58,17 +61,17 @@ By size misfits header vendor =
     → Holds (avpBy (a .at) (a .depth) header vendor (code .number4 .result) flags (size .number3 .result)) ≡ frame)
 
 -- a header without Vendor-Id
-plain : (c : tie.After-misfits) → By (c .before .before) (c .misfits .result) 8 0
+plain : (c : tie.After-misfits) → By (c .before .before .before) (c .misfits .result) 8 0
 plain c =
     let v = c .before in
-    let size = v .before in
+    let size = v .before .before in
     let code = size .before .before in
     let eight = code .before in
     let st = eight .before .before .before in
     let a = st .args in
     rw (c .misfits .ensures)
     (read-plain (a .s .now) (a .at) (a .end) (st .pre) (a .depth) (eight .if1 .left) (code .number4 .ensures .is)
-    (size .number3 .ensures .is) (ne-eqb _ _ (v .if2 .taken)))
+    (size .number3 .ensures .is) (sym (v .before .has-flag .ensures) ∙ not-true _ (v .if2 .taken)))
 
 fault-requires-2 : tie.Need-fault-requires-2
 fault-requires-2 c κs = search needs
@@ -79,7 +82,7 @@ returns-2 c = ap Broken (c .fault2 .ensures) ∙ plain (c .before .before) .0 (c
 avp-by-requires : tie.Need-avp-by-requires
 avp-by-requires c κs =
     let q = c .before in
-    let size = q .before .before in
+    let size = q .before .before .before in
     let fit : 8 ≤ size .number3 .result = fit-header _ 8 (size .number3 .result) (sym (q .misfits .ensures) ∙ c .if3 .left) in
     omega (arith, fit, size .number3 .ensures .below, size .before .before .before .before .before .before .pre)
 
@@ -92,13 +95,13 @@ fault-requires-3 c κs = search needs
 returns-4 : tie.Need-returns-4
 returns-4 c =
     let v = c .before .before in
-    let code = v .before .before .before in
+    let code = v .before .before .before .before in
     let eight = code .before in
     let st = eight .before .before .before in
     let a = st .args in
     ap Broken (c .fault3 .ensures)
     ∙ read-vendor-left (a .s .now) (a .at) (a .end) (st .pre) (a .depth) (eight .if1 .left) (code .number4 .ensures .is)
-    (eq-eqb _ _ (v .if2 .left)) (c .before .if4 .taken)
+    (sym (v .before .has-flag .ensures) ∙ not-false _ (v .if2 .left)) (c .before .if4 .taken)
 
 number4-requires-2 : tie.Need-number4-requires-2
 number4-requires-2 c κs = search needs
@@ -108,19 +111,19 @@ misfits-requires-2 c κs = search needs
 
 -- a header with Vendor-Id
 by-vendor :
-    (c : tie.After-misfits2) → By (c .before .before .before .before) (c .misfits2 .result) 12 (c .before .number42 .result)
+    (c : tie.After-misfits2) → By (c .before .before .before .before .before) (c .misfits2 .result) 12 (c .before .number42 .result)
 by-vendor c =
     let vendor = c .before in
     let twelve = vendor .before in
     let v = twelve .before in
-    let size = v .before in
+    let size = v .before .before in
     let code = size .before .before in
     let eight = code .before in
     let st = eight .before .before .before in
     let a = st .args in
     rw (c .misfits2 .ensures)
     (read-vendor (a .s .now) (a .at) (a .end) (st .pre) (a .depth) (eight .if1 .left) (code .number4 .ensures .is)
-    (size .number3 .ensures .is) (eq-eqb _ _ (v .if2 .left)) (twelve .if4 .left) (vendor .number42 .ensures .is))
+    (size .number3 .ensures .is) (sym (v .before .has-flag .ensures) ∙ not-false _ (v .if2 .left)) (twelve .if4 .left) (vendor .number42 .ensures .is))
 
 fault-requires-4 : tie.Need-fault-requires-4
 fault-requires-4 c κs = search needs
@@ -131,7 +134,7 @@ returns-5 c = ap Broken (c .fault4 .ensures) ∙ by-vendor (c .before .before) .
 avp-by-requires-2 : tie.Need-avp-by-requires-2
 avp-by-requires-2 c κs =
     let q = c .before in
-    let size = q .before .before .before .before in
+    let size = q .before .before .before .before .before in
     let fit : 12 ≤ size .number3 .result = fit-header _ 12 (size .number3 .result) (sym (q .misfits2 .ensures) ∙ c .if5 .left) in
     omega (arith, fit, size .number3 .ensures .below, size .before .before .before .before .before .before .pre)
 
@@ -150,6 +153,7 @@ framed-spec =
     number4-requires
     shared-slice-read-flags
     number3-requires
+    has-flag-requires
     misfits-requires
     fault-requires-2
     returns-2
