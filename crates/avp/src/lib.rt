@@ -64,7 +64,7 @@ fn place_before(place: u32, octets: u32) -> u32
 }
 
 // The first octet of an AVP, whose V is set exactly where its vendor is not 0.
-pub fn place_of(a: Avp) -> u32
+fn place_of(a: Avp) -> u32
     ensures { λ r. ⌜ r ≡ placeOf a ⌝ }
 {
     if a.vendor == NO_VENDOR {

@@ -11,7 +11,7 @@ use lib.Dec.{eqb}
 use Rattle.rules.specs.declared.Verdict.{Verdict}
 use Rattle.rules.specs.Command.{commandVerdict}
 use Rattle.rules.specs.Book.{lengthOf, isCut, isBook, commandIn, acceptance, commandLine, cutLine, endLine, headLine, notABook, linesFrom, listing, bookHead}
-use Rattle.book.specs.Promise.{Listed, Put, PutWithin, Ready, linesOf, room}
+use Rattle.book.specs.Promise.{ListingPut, Put, PutWithin, HeadPut, linesOf, room}
 use Rattle.book.proofs.Text.{joined}
 use Rattle.book.proofs.Cuts.{whole, book-head, book-size}
 
@@ -50,7 +50,7 @@ acceptance-small v = one-or-none (eqb (v .number) 0)
 
 -- `at` in the octets and `offset` in the book, after this many commands and acceptances: what is put from here on as the
 -- lines that are left makes the listing whole. A line is shorter than three and a half times its command.
-pub record Turn (book before : List ℕ) (start : ℕ) (out : List ℕ) (at offset commands accepted : ℕ) : Type 0 where
+pub record LinesLeft (book before : List ℕ) (start : ℕ) (out : List ℕ) (at offset commands accepted : ℕ) : Type 0 where
   pub inside : offset ≤ length book
   pub fits : 2 * at ≤ 7 * offset
   pub few : commands ≤ offset
@@ -61,7 +61,7 @@ pub record Turn (book before : List ℕ) (start : ℕ) (out : List ℕ) (at offs
       → Put before start (linesOf book) r after
 
 module _ {book before : List ℕ} {start : ℕ} where
-  pub first-turn : Ready book start → Turn book before start before start bookHead 0 0
+  pub first-turn : HeadPut book start → LinesLeft book before start before start bookHead 0 0
   first-turn h = record {
     inside = h .head;
     fits = omega arith;
@@ -72,7 +72,7 @@ module _ {book before : List ℕ} {start : ℕ} where
     rest = λ r after p. p;
   }
 
-  module _ {out : List ℕ} {at offset commands accepted : ℕ} (t : Turn book before start out at offset commands accepted) where
+  module _ {out : List ℕ} {at offset commands accepted : ℕ} (t : LinesLeft book before start out at offset commands accepted) where
     pub turn-end : length book ≤ offset → {r : ℕ} {after : List ℕ} → Put out at (endLine commands accepted) r after
         → Put before start (linesOf book) r after
     turn-end h {r} {after} p = t .rest r after (rw (lines-end book offset commands accepted (t .bound) (t .enough) h) p)
@@ -84,7 +84,7 @@ module _ {book before : List ℕ} {start : ℕ} where
 
       pub next-turn : isCut book offset ≡ false → {v : Verdict} → v ≡ commandVerdict (commandIn book offset)
           → {r : ℕ} {after : List ℕ} → PutWithin 66 out at (commandLine (commands + 1) offset v) r after
-          → Turn book before start after r (offset + lengthOf book offset) (commands + 1) (accepted + acceptance v)
+          → LinesLeft book before start after r (offset + lengthOf book offset) (commands + 1) (accepted + acceptance v)
       next-turn e {v} same {r} {after} p =
           let w = whole book offset e in
           let one : acceptance v ≤ 1 = acceptance-small v in
@@ -103,21 +103,21 @@ module _ {book before : List ℕ} {start : ℕ} where
 -- ---- the whole listing
 
 -- where the lines start
-pub ready : {book before : List ℕ} {r : ℕ} {after : List ℕ} → isBook book ≡ true → Put before 0 headLine r after → Ready book r
-ready {book} e p = record { head = book-head book e; short = book-size book e; place = omega (arith, p .next) }
+pub head-put : {book before : List ℕ} {r : ℕ} {after : List ℕ} → isBook book ≡ true → Put before 0 headLine r after → HeadPut book r
+head-put {book} e p = record { head = book-head book e; short = book-size book e; place = omega (arith, p .next) }
 
 module _ (book before : List ℕ) {r : ℕ} {after : List ℕ} where
-  pub listed-none : isBook book ≡ false → Put before 0 notABook r after → Listed book before r after
+  pub listed-none : isBook book ≡ false → Put before 0 notABook r after → ListingPut book before r after
   unfolding listing
   listed-none e p = record { count = rw e (omega (arith, p .next)); octets = rw e (p .octets); within = omega (arith, p .next) }
 
   pub listed : isBook book ≡ true → {middle : ℕ} {between : List ℕ} → Put before 0 headLine middle between
-      → PutWithin (room - 6) between middle (linesOf book) r after → Listed book before r after
+      → PutWithin (room - 6) between middle (linesOf book) r after → ListingPut book before r after
   unfolding listing
   listed e p q =
       let whole = joined p (q .put) in
       record { count = rw e (whole .next ∙ omega arith); octets = rw e (whole .octets); within = omega (arith, p .next) }
 
 -- the lent octets stay as many
-pub listed-length : {book before : List ℕ} {r : ℕ} {after : List ℕ} → Listed book before r after → length after ≡ length before
+pub listed-length : {book before : List ℕ} {r : ℕ} {after : List ℕ} → ListingPut book before r after → length after ≡ length before
 listed-length {book} {before} l = ap length (l .octets) ∙ length-sets before 0 (listing book)

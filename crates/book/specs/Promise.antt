@@ -12,7 +12,7 @@ abbrev pub room : ℕ
 room = 262144
 
 -- the listing of a book: how many octets it has, and these octets from the start on, the rest untouched
-pub record Listed (book before : List ℕ) (r : ℕ) (after : List ℕ) : Type 0 where
+pub record ListingPut (book before : List ℕ) (r : ℕ) (after : List ℕ) : Type 0 where
   pub count : r ≡ length (listing book)
   pub octets : after ≡ sets before 0 (listing book)
   pub within : r ≤ room
@@ -32,7 +32,7 @@ abbrev pub linesOf : List ℕ → List ℕ
 linesOf book = linesFrom (length book) book bookHead 0 0
 
 -- a book's length, and the place behind the head line
-pub record Ready (book : List ℕ) (at : ℕ) : Type 0 where
+pub record HeadPut (book : List ℕ) (at : ℕ) : Type 0 where
   pub head : bookHead ≤ length book
   pub short : length book ≤ longestBook
   pub place : at ≤ 6

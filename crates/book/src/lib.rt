@@ -7,7 +7,7 @@ ghost use Prim.Native.Nat.{_+_, _-_, _≤_, _<_};
 ghost use lib.ListN.{length};
 ghost use Rattle.rules.specs.Command.{commandVerdict};
 ghost use Rattle.rules.specs.Book.{decimal, spaced, newline, commandLine, cutLine, endLine, isCut, isBook, commandIn, acceptance};
-ghost use Rattle.book.specs.Promise.{Listed, Put, PutWithin, Ready, linesOf, room};
+ghost use Rattle.book.specs.Promise.{ListingPut, Put, PutWithin, HeadPut, linesOf, room};
 use rules::Verdict;
 use rules::limits;
 
@@ -151,7 +151,7 @@ fn put_lines(
     start: usize,
     log: &mut [u32; limits::LOG_NUMBERS],
 ) -> usize
-    requires { ⌜ Ready (now book) start ⌝ }
+    requires { ⌜ HeadPut (now book) start ⌝ }
     ensures { λ r. ⌜ PutWithin (room - 6) (now (out .entry)) start (linesOf (now (book .entry))) r (now (out .exit)) ⌝ }
 {
     let mut at = start;
@@ -189,7 +189,7 @@ fn is_book(book: &[u8]) -> bool
 
 // Puts the listing of a book, whatever the octets, and returns how many octets it has.
 pub fn listing(book: &[u8], out: &mut [u8; 262144]) -> usize
-    ensures { λ r. ⌜ Listed (now (book .entry)) (now (out .entry)) r (now (out .exit)) ⌝ }
+    ensures { λ r. ⌜ ListingPut (now (book .entry)) (now (out .entry)) r (now (out .exit)) ⌝ }
 {
     if is_book(book) {
         let mut log = [0u32; limits::LOG_NUMBERS];

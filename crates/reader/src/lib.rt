@@ -17,7 +17,7 @@ pub use record::is_found;
 pub use record::search;
 
 // What judging a command gives: the outcome of its checks, and for an accepted one how many AVPs stand in the log.
-pub struct Judgement {
+pub(crate) struct Judgement {
     pub outcome: Outcome,
     pub count: usize,
 }

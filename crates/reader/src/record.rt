@@ -2,12 +2,9 @@
 ghost use mathlib.Core.Path.{_≡_};
 ghost use Prim.Native.Nat.{_+_, _≤_};
 ghost use denote.Ref.{ptr};
-ghost use mathlib.Core.Bool.{_&&_};
-ghost use lib.Dec.{eqb};
 ghost use lib.ListN.{length, replicate};
 ghost use Rattle.rules.specs.Verdict.{Answers};
-ghost use Rattle.rules.specs.Search.{blank, positionOf};
-ghost use Rattle.rules.specs.Avp.{named};
+ghost use Rattle.rules.specs.Search.{blank, isAt, positionOf};
 ghost use Rattle.rules.specs.Header.{headerSize};
 ghost use Rattle.rules.specs.Walk.{mostAvps};
 ghost use Rattle.rules.specs.Record.{inRoom, recordOf, emptyRecord, dataStart, dataAt, searchRecord};
@@ -77,7 +74,7 @@ pub(crate) fn record_of(s: &[u8], log: &[u32; limits::LOG_NUMBERS], count: usize
 
 // What a search looks for: an AVP at depth 1 with a vendor and code.
 pub fn is_found(a: Avp, vendor: u32, code: u32) -> bool
-    ensures { λ r. ⌜ r ≡ (eqb (a .depth) 1 && named a vendor code) ⌝ }
+    ensures { λ r. ⌜ r ≡ isAt a 1 vendor code ⌝ }
 {
     if a.depth != 1 {
         return false;

@@ -161,7 +161,7 @@ fn row_of_3gpp(grammar: Grammar, code: u32) -> Admission
 }
 
 // The row of a list that names an AVP.
-pub fn row_of(grammar: Grammar, vendor: u32, code: u32) -> Admission
+pub(crate) fn row_of(grammar: Grammar, vendor: u32, code: u32) -> Admission
     ensures { λ r. ⌜ r ≡ admission grammar vendor code ⌝ }
 {
     match vendor {
@@ -172,7 +172,7 @@ pub fn row_of(grammar: Grammar, vendor: u32, code: u32) -> Admission
 }
 
 // "+" at the end admits any other AVP in any number.
-pub fn admits_others(grammar: Grammar) -> bool
+pub(crate) fn admits_others(grammar: Grammar) -> bool
     ensures { λ r. ⌜ r ≡ admitsOthers grammar ⌝ }
 {
     match grammar {

@@ -30,7 +30,7 @@ fn first_and_once(met: bool, first: bool, a: Avp) -> Outcome
 }
 
 // A member that has a row with this mark: `met` says that the row was met before, `first` that the member is the list's first.
-pub fn by_mark(mark: Mark, met: bool, first: bool, a: Avp) -> Outcome
+pub(crate) fn by_mark(mark: Mark, met: bool, first: bool, a: Avp) -> Outcome
     ensures { λ r. ⌜ r ≡ byMark mark met first a ⌝ }
 {
     match mark {

@@ -149,7 +149,7 @@ fn required_in_transfer_policy(k: usize) -> Required
 }
 
 // The k-th row of a list that must be met.
-pub fn required(grammar: Grammar, k: usize) -> Required
+fn required(grammar: Grammar, k: usize) -> Required
     ensures { λ r. ⌜ r ≡ requiredAt grammar k ⌝ }
 {
     match grammar {
@@ -165,7 +165,7 @@ pub fn required(grammar: Grammar, k: usize) -> Required
 }
 
 // The first missing row of a list that ends at `end`. The counts are only looked at, so they are lent.
-pub fn missing_row(grammar: Grammar, counts: &[u16; 24], end: u32) -> Outcome
+pub(crate) fn missing_row(grammar: Grammar, counts: &[u16; 24], end: u32) -> Outcome
     ensures { λ r. ⌜ r ≡ missing grammar (now (counts .entry)) end ⌝ }
 {
     let mut k: usize = 0;

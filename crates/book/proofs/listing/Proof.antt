@@ -1,7 +1,7 @@
 -- `book::listing` meets its contract.
 use borrow.Author.Needs.{needs}
 use mathlib.Core.Path.{sym, _∙_}
-use Rattle.book.proofs.Turns.{ready, listed, listed-none}
+use Rattle.book.proofs.Turns.{head-put, listed, listed-none}
 use Rattle.book.proofs.listing.Statement.{statement}
 use Rattle.book.proofs.listing.Tie as tie
 
@@ -18,7 +18,7 @@ put-lines-requires : tie.Need-put-lines-requires
 put-lines-requires c κs =
     let w = c .before .before in
     let i = w .before .before .before in
-    ready (sym (i .before .is-book .ensures) ∙ i .if1 .taken) (w .put-word .ensures)
+    head-put (sym (i .before .is-book .ensures) ∙ i .if1 .taken) (w .put-word .ensures)
 
 returns : tie.Need-returns
 returns c =

@@ -5,12 +5,12 @@ use Prim.Native.Nat.{_-_}
 use native.Mathlib.Omega.{arith}
 use lib.ListN.{length}
 use Rattle.book.proofs.Cuts.{whole}
-use Rattle.book.proofs.Turns.{Turn, first-turn, turn-cut, next-turn, turn-end, acceptance-small}
+use Rattle.book.proofs.Turns.{LinesLeft, first-turn, turn-cut, next-turn, turn-end, acceptance-small}
 use Rattle.book.proofs.put_lines.Statement.{statement}
 use Rattle.book.proofs.put_lines.Tie as tie
 
 abbrev Inv-loop : tie.InvT-loop
-Inv-loop book out₀ start log₀ at₀ offset₀ commands₀ accepted₀ out log at offset commands accepted = Turn book out₀ start out at offset commands accepted
+Inv-loop book out₀ start log₀ at₀ offset₀ commands₀ accepted₀ out log at offset commands accepted = LinesLeft book out₀ start out at offset commands accepted
 
 abbrev μ-loop : tie.MeasureT-loop
 μ-loop book out₀ start log₀ at₀ offset₀ commands₀ accepted₀ out log at offset commands accepted = length book - offset

@@ -1,6 +1,7 @@
 -- `dictionary::is_read_group` meets its contract.
 use borrow.Author.Needs.{needs}
-use mathlib.Core.Path.{sym, _∙_}
+use mathlib.Core.Path.{sym, ap, _∙_}
+use Rattle.rules.specs.Dictionary.{hasMembers}
 use Rattle.dictionary.proofs.is_read_group.Statement.{statement}
 use Rattle.dictionary.proofs.is_read_group.Tie as tie
 
@@ -14,10 +15,10 @@ enum-told-2 : tie.Need-enum-told-2
 enum-told-2 c = search needs
 
 returns : tie.Need-returns
-returns c = rw (sym (c .before .before .members .ensures .is) ∙ c .enum-told2 .given .1)
+returns c = ap hasMembers (sym (c .enum-told2 .given .1) ∙ c .before .before .members .ensures .is)
 
 returns-2 : tie.Need-returns-2
-returns-2 c = rw (sym (c .before .before .members .ensures .is) ∙ c .enum-told .given .1)
+returns-2 c = ap hasMembers (sym (c .enum-told .given .1) ∙ c .before .before .members .ensures .is)
 
 pub is-read-group-spec : {M : Type 1} → statement M
 is-read-group-spec = tie.close (tie.spec members-requires enum-told enum-told-2 returns returns-2)

@@ -1,0 +1,10 @@
+-- `exchange::window::is_before` meets its contract.
+use mathlib.Core.Path.{refl}
+use Rattle.exchange.proofs.window.is_before.Statement.{statement}
+use Rattle.exchange.proofs.window.is_before.Tie as tie
+
+returns : tie.Need-returns
+returns c = refl
+
+pub is-before-spec : {M : Type 1} → statement M
+is-before-spec = tie.close (tie.spec returns)
