@@ -12,11 +12,12 @@ use Rattle.rules.specs.Command.{commandOutcome, commandVerdict}
 use Rattle.rules.specs.Record.{reading}
 use Rattle.rules.specs.Meaning.{meaningOf}
 use Rattle.rules.specs.Calls.{front}
+use Rattle.rules.specs.Demands.{AcceptedCommand, Rewritten}
 use Rattle.rules.specs.Canonical.{canonical}
 use Rattle.rules.specs.Octets.{AreOctets}
-use Rattle.rules.specs.Draft.{ownDraft}
+use Rattle.rules.specs.Draft.{draftOf, ownDraft}
 use Rattle.rules.proofs.demands.again.OwnForm.{answer-is, output-is, refused-answer, refused-output, accepted-room}
-use Rattle.rules.proofs.demands.Demands.{AcceptedCommand, demand-2-accepted, Rewritten, demand-2-rewrite}
+use Rattle.rules.proofs.demands.Demands.{demand-2-accepted, demand-2-rewrite}
 use Rattle.writer.specs.Promise.{IsWritten}
 use Rattle.canonical.specs.Promise.{IsCanonical}
 
@@ -47,8 +48,8 @@ module _ (s out : List ℕ) (r : Reading) (is : r ≡ reading s) where
 
   -- an accepted one, its record written over its octets
   module _ (oct : AreOctets s) (zero : r .verdict .number ≡ 0) (w : Written) (after : List ℕ)
-      (written : IsWritten (r .«record») s out w after) where
-    own : IsWritten (reading s .«record») s out w after
+      (written : IsWritten (draftOf (r .«record») s) out w after) where
+    own : IsWritten (ownDraft s) out w after
     own = rw is at written
 
     command : AcceptedCommand s
