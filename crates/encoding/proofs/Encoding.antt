@@ -12,7 +12,7 @@ use Rattle.rules.specs.declared.Outcome.the-variants.{Pass}
 use Rattle.rules.specs.Verdict.{refused}
 use Rattle.rules.specs.Header.{headerSize, longestCommand}
 use Rattle.rules.specs.Draft.{Draft, draftOf, draftMeaning, isWellFormed}
-use Rattle.rules.specs.Writer.{draftOctets}
+use Rattle.rules.specs.Writer.{draftOctets, ownOutcome}
 use Rattle.rules.proofs.Sizes.{draft-long}
 use Rattle.rules.proofs.demands.written.Headers.{command-long}
 use Rattle.numbers.specs.Numbers.{numberedRecord}
@@ -20,7 +20,7 @@ use Rattle.numbers.specs.Draft.{numberedDraft}
 use Rattle.numbers.proofs.Draft.{draft-formed}
 use Rattle.draft.specs.Promise.{IsCommandSize}
 use Rattle.encoding.specs.declared.Encoded.{Encoded}
-use Rattle.encoding.specs.Encoding.{ownOutcome, encodedOctets, IsEncoded, notEncoded}
+use Rattle.encoding.specs.Encoding.{encodedOctets, IsEncoded, notEncoded}
 use Rattle.encoding.specs.Promise.{numberedList, numberedCommand, CanPutCommand}
 use Rattle.encoding.proofs.Whole.{formed-whole}
 

@@ -12,7 +12,7 @@ use Rattle.rules.specs.declared.Record.{Record}
 use Rattle.rules.specs.Walk.{mostAvps}
 use Rattle.rules.specs.Verdict.{refused}
 use Rattle.rules.specs.Draft.{draftOf, isWellFormed}
-use Rattle.rules.specs.Writer.{draftOutcome}
+use Rattle.rules.specs.Writer.{ownOutcome, draftOutcome}
 use Rattle.rules.proofs.Walk.{by-cases}
 use Rattle.log.specs.Log.{bit}
 use Rattle.numbers.specs.Numbers.{headNumbers, avpNumbers, avpsNumbers, numbersOf, numberedPlace, numberedRecord}
@@ -37,7 +37,7 @@ module _ (numbers s : List ℕ) where
 
   pub unfit-7006 : flagsFit numbers ≡ false
       → (room : ℕ) → draftOutcome (numberedDraft numbers s) room ≡ refused 7006 0 0 0
-  unfolding draftOutcome
+  unfolding draftOutcome ownOutcome
   unfit-7006 e room = rw (draft-unfit e)
 
   -- a well-formed draft is the numbered record over the octets

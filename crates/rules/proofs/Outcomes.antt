@@ -13,6 +13,10 @@ refused-first o p e = rw e
 pub pass-first : (o p : Outcome) → o ≡ Pass → orElse o p ≡ p
 pass-first o p e = rw e
 
+pub or-pass : (o : Outcome) → orElse o Pass ≡ o
+or-pass Pass = refl
+or-pass (Refused v) = refl
+
 -- what passes as a whole passes in each part
 pub both-pass : (o p : Outcome) → orElse o p ≡ Pass → (o ≡ Pass) × (p ≡ Pass)
 both-pass Pass p e = (refl, e)

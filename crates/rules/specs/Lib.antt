@@ -14,14 +14,15 @@ pub mod Exchange
 pub mod Command
 -- What comes back
 pub mod Verdict
--- The record and the writer
+-- The record and the writer: the record, meaning, data and search; the draft, the call and its octets; agreement and lists
+-- of calls; and what the demands claim of them
 pub mod Record
-pub mod Search
 pub mod Meaning
-pub mod Agreement
-pub mod Wire
+pub mod Search
 pub mod Draft
 pub mod Writer
+pub mod Wire
+pub mod Agreement
 pub mod Calls
 pub mod Demands
 -- beyond 01: the canonical form of a command, which names a state

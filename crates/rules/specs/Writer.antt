@@ -7,7 +7,7 @@ use lib.Dec.{ltb}
 use Rattle.rules.specs.declared.Written.{Written}
 use Rattle.rules.specs.declared.Outcome.{Outcome}
 use Rattle.rules.specs.declared.Outcome.the-variants.{Pass, Refused}
-use Rattle.rules.specs.Verdict.{refused, refuseIf, verdictOf}
+use Rattle.rules.specs.Verdict.{refused, refuseIf, orElse, verdictOf}
 use Rattle.rules.specs.Header.{longestCommand}
 use Rattle.rules.specs.Command.{commandOutcome}
 use Rattle.rules.specs.Wire.{commandOctets}
@@ -17,13 +17,17 @@ use Rattle.rules.specs.Draft.{Draft, draftMeaning, isWellFormed}
 abbrev pub draftOctets : Draft → List ℕ
 draftOctets d = commandOctets (draftMeaning d)
 
--- 7006, 7001, 7004, then what the reader says of those octets
-unfoldable pub draftOutcome : Draft → ℕ → Outcome
-draftOutcome d room =
+-- the writer's own refusals: 7006, 7001, 7004; place, vendor and code are 0
+unfoldable pub ownOutcome : Draft → ℕ → Outcome
+ownOutcome d room =
     refuseIf (not (isWellFormed d)) (refused 7006 0 0 0)
     (refuseIf (ltb longestCommand (length (draftOctets d))) (refused 7001 0 0 0)
     (refuseIf (ltb room (length (draftOctets d))) (refused 7004 0 0 0)
-    (commandOutcome (draftOctets d))))
+    Pass))
+
+-- then the refusal that the reader gives to those octets
+unfoldable pub draftOutcome : Draft → ℕ → Outcome
+draftOutcome d room = orElse (ownOutcome d room) (commandOutcome (draftOctets d))
 
 -- the octets that a call writes
 abbrev pub octetsBy : Outcome → List ℕ → List ℕ

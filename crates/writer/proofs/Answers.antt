@@ -17,9 +17,9 @@ use Rattle.rules.specs.Verdict.{verdict, orElse}
 use Rattle.rules.specs.Header.{longestCommand}
 use Rattle.rules.specs.Command.{commandOutcome}
 use Rattle.rules.specs.Draft.{Draft, isWellFormed}
-use Rattle.rules.specs.Writer.{draftOctets, draftOutcome, octetsWritten, writing, outputAfter}
+use Rattle.rules.specs.Writer.{draftOctets, draftOutcome, octetsWritten, writing, outputAfter, ownOutcome}
 use Rattle.rules.proofs.Walk.{by-cases, never}
-use Rattle.encoding.specs.Encoding.{ownOutcome, encodedOctets}
+use Rattle.encoding.specs.Encoding.{encodedOctets}
 use Rattle.writer.specs.Promise.{IsWritten, CanWrite, IsJudged}
 
 -- ---- octets, judged
@@ -43,13 +43,8 @@ module _ (xs out : List ℕ) (o : Outcome) (is : o ≡ commandOutcome xs) where
 module _ (d : Draft) (room : ℕ) where
   -- the writer's own refusals come before the reader's
   outcome-own : draftOutcome d room ≡ orElse (ownOutcome d room) (commandOutcome (draftOctets d))
-  unfolding draftOutcome ownOutcome
-  outcome-own =
-      by-cases (isWellFormed d)
-      (λ f. by-cases (ltb longestCommand (length (draftOctets d)))
-      (λ l. rw (f, l))
-      (λ l. by-cases (ltb room (length (draftOctets d))) (λ r. rw (f, l, r)) (λ r. rw (f, l, r))))
-      (λ f. rw f)
+  unfolding draftOutcome
+  outcome-own = refl
 
   module _ (own : ownOutcome d room ≡ Pass) where
     short-and-room : (length (draftOctets d) ≤ longestCommand) × (length (draftOctets d) ≤ room)

@@ -4,7 +4,7 @@ use mathlib.Core.Path.{_≡_, sym, _∙_}
 use lib.ListN.{length}
 use Rattle.rules.specs.declared.Outcome.the-variants.{Pass}
 use Rattle.numbers.specs.Draft.{numberedDraft}
-use Rattle.encoding.specs.Encoding.{ownOutcome}
+use Rattle.rules.specs.Writer.{ownOutcome}
 use Rattle.writer.proofs.Answers.{written-refused, command-whole, can-write, written-judged}
 use Rattle.writer.proofs.write_numbers.Statement.{statement}
 use Rattle.writer.proofs.write_numbers.Tie as tie

@@ -24,7 +24,8 @@ use Rattle.rules.specs.Record.{recordOf, reading, recorded}
 use Rattle.rules.specs.Meaning.{meaningOf, meaningOver, cellOf}
 use Rattle.rules.specs.Wire.{commandOctets}
 use Rattle.rules.specs.Draft.{ownDraft, cellsOf, isBlank, allBlank, unusedBlank, isPlaced, allPlaced, nameFits, namesFit}
-use Rattle.rules.specs.Writer.{draftOctets, draftOutcome, octetsWritten}
+use Rattle.rules.specs.Writer.{ownOutcome, draftOctets, draftOutcome, octetsWritten}
+use Rattle.rules.proofs.Outcomes.{or-pass}
 use Rattle.rules.proofs.Walk.{by-cases}
 use Rattle.rules.proofs.demands.items.Items.{Item, cellIn, octetsOf, step, avpOf, avpsAt, All, Fit}
 use Rattle.rules.proofs.demands.items.Trees.{isGroupCell}
@@ -157,7 +158,7 @@ module _ (c : List ℕ) (oct : AreOctets c) (pass : commandOutcome c ≡ Pass) w
   pub draft-outcome : (room : ℕ)
       → draftOutcome (ownDraft c) room
       ≡ refuseIf (ltb room (length (draftOctets (ownDraft c)))) (refused 7004 0 0 0) Pass
-  unfolding draftOutcome
+  unfolding draftOutcome ownOutcome
   draft-outcome room =
       let l = written-long in
       let within = read .header .within in
@@ -166,6 +167,7 @@ module _ (c : List ℕ) (oct : AreOctets c) (pass : commandOutcome c ≡ Pass) w
         le-ltb longestCommand (length (draftOctets (ownDraft c))) (omega arith),
         written-accepted,
       )
+      (or-pass (refuseIf (ltb room (length (draftOctets (ownDraft c)))) (refused 7004 0 0 0) Pass))
 
   module _ (out : List ℕ) (room : length c ≤ length out) where
     pub draft-accepted : draftOutcome (ownDraft c) (length out) ≡ Pass

@@ -18,8 +18,9 @@ use Rattle.rules.specs.Command.{commandOutcome}
 use Rattle.rules.specs.Meaning.{Meaning, meaningOf}
 use Rattle.rules.specs.Wire.{commandOctets}
 use Rattle.rules.specs.Draft.{Draft, draftMeaning, isWellFormed}
-use Rattle.rules.specs.Writer.{draftOctets, draftOutcome, octetsBy, octetsWritten, writing, outputAfter}
+use Rattle.rules.specs.Writer.{draftOctets, ownOutcome, draftOutcome, octetsBy, octetsWritten, writing, outputAfter}
 use Rattle.rules.specs.Calls.{front, rest, allWritten, outputAfterAll, ifAccepted, acceptedDrafts, SameInOrder}
+use Rattle.rules.proofs.Outcomes.{both-pass}
 use Rattle.rules.proofs.Walk.{never}
 use Rattle.rules.proofs.Passed.{not-refused}
 use Rattle.rules.proofs.demands.octets.Numbers.{number-front}
@@ -39,16 +40,17 @@ pub record Accepted (d : Draft) (room : ℕ) : Type 0 where
   pub pass : commandOutcome (draftOctets d) ≡ Pass
 
 pub accepted : (d : Draft) (room : ℕ) → draftOutcome d room ≡ Pass → Accepted d room
-unfolding draftOutcome
+unfolding draftOutcome ownOutcome
 accepted d room e =
-    let form = not-refused (not (isWellFormed d)) _ _ e in
+    let both = both-pass (ownOutcome d room) (commandOutcome (draftOctets d)) e in
+    let form = not-refused (not (isWellFormed d)) _ _ (both .0) in
     let long = not-refused (ltb longestCommand (length (draftOctets d))) _ _ (form .1) in
     let fits = not-refused (ltb room (length (draftOctets d))) _ _ (long .1) in
     record {
       form = not-false _ (form .0);
       long = ltb-false _ _ (long .0);
       fits = ltb-false _ _ (fits .0);
-      pass = fits .1;
+      pass = both .1;
     }
 
 -- what is written fits the room

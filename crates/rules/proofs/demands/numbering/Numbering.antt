@@ -17,11 +17,11 @@ use Rattle.rules.specs.Dictionary.{dictionary}
 use Rattle.rules.specs.Walk.{Walked, whole, stopped, stopOf}
 use Rattle.rules.specs.Command.{commandGrammar, ownList, walkOf, listsOutcome, walkedOutcome, commandOutcome, commandVerdict}
 use Rattle.rules.specs.Draft.{Draft}
-use Rattle.rules.specs.Writer.{draftOctets, draftOutcome, writing}
+use Rattle.rules.specs.Writer.{draftOctets, ownOutcome, draftOutcome, writing}
 use Rattle.rules.proofs.Tests.{or-right}
 use Rattle.rules.proofs.Walk.{never}
 use Rattle.rules.proofs.demands.items.Lists.{not-both}
-use Rattle.rules.proofs.demands.numbering.Refusals.{numberIn, isNumbered, either, both, in-turn, header-numbered, walk-numbered}
+use Rattle.rules.proofs.demands.numbering.Refusals.{numberIn, isNumbered, either, both, in-order, in-turn, header-numbered, walk-numbered}
 use Rattle.rules.proofs.demands.numbering.ListRefusals.{rows-numbered, exchange-numbered}
 
 lists-numbered : (s : List ℕ) (w : Walked) → isNumbered (stopOf w) ≡ true → isNumbered (walkedOutcome s w) ≡ true
@@ -45,11 +45,15 @@ writers-too (Refused v) h =
     let n = v .number in
     or-right (eqb n 7004) _ (or-right (eqb n 7006) (isAmong readerNumbers n) h)
 
+own-numbered : (d : Draft) (room : ℕ) → numberIn writerNumbers (ownOutcome d room) ≡ true
+unfolding ownOutcome numberIn writerOnlyNumbers readerNumbers
+own-numbered d room = simp (either, both)
+
 draft-numbered : (d : Draft) (room : ℕ) → numberIn writerNumbers (draftOutcome d room) ≡ true
-unfolding draftOutcome numberIn writerOnlyNumbers readerNumbers
+unfolding draftOutcome
 draft-numbered d room =
-    let c = writers-too (commandOutcome (draftOctets d)) (command-numbered (draftOctets d)) in
-    simp (either, both, c)
+    in-order writerNumbers (ownOutcome d room) (commandOutcome (draftOctets d)) (own-numbered d room)
+    (writers-too (commandOutcome (draftOctets d)) (command-numbered (draftOctets d)))
 
 -- ---- what that says of a number that comes back
 

@@ -44,9 +44,12 @@ pub both : (b : Bool) → cond b true true ≡ true
 both true = refl
 both false = refl
 
+pub in-order : (ns : List ℕ) (o p : Outcome) → numberIn ns o ≡ true → numberIn ns p ≡ true → numberIn ns (orElse o p) ≡ true
+in-order ns Pass p f g = g
+in-order ns (Refused v) p f g = f
+
 pub in-turn : (o p : Outcome) → isNumbered o ≡ true → isNumbered p ≡ true → isNumbered (orElse o p) ≡ true
-in-turn Pass p f g = g
-in-turn (Refused v) p f g = f
+in-turn = in-order readerNumbers
 
 -- ---- the header
 
