@@ -48,7 +48,7 @@ fn avp_line(record: Record, position: u8) {
 fn data_line(record: Record, position: u16, command: [u8; 16400], length: usize)
     requires { ⌜ length ≤ 16400 ⌝ }
 {
-    let data = reader::data(record, position as usize, &command[..length]);
+    let data = lookup::data(record, position as usize, &command[..length]);
     print::word(b"data");
     print::spaced(position as u32);
     print::octets(data);
@@ -59,7 +59,7 @@ fn search_line(record: Record, vendor: u32, code: u32) {
     print::word(b"search");
     print::spaced(vendor);
     print::spaced(code);
-    let found = reader::search(record, vendor, code);
+    let found = lookup::search(record, vendor, code);
     match found {
         Found::At(position) => print::position(position),
         Found::Nothing => print::word(b" nothing"),

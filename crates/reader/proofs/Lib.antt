@@ -1,4 +1,3 @@
--- The laws behind the reader's proofs: a record's places and searches, which other crates cite, and a command's checks in
--- order.
-pub mod Places
+-- The laws behind the reader's proofs: a record's places, and a command's checks in order.
+mod Places
 mod Order

@@ -1,4 +1,4 @@
-// The reader of commands: the verdict and the record of a slice of octets, the data of a position, and the search.
+// The reader of commands: the verdict and the record of a slice of octets.
 ghost use mathlib.Core.Path.{_≡_};
 ghost use Rattle.rules.specs.Verdict.{verdict};
 ghost use Rattle.rules.specs.Record.{reading};
@@ -11,10 +11,6 @@ use rules::limits;
 mod header;
 mod judge;
 mod record;
-
-pub use record::data;
-pub use record::is_found;
-pub use record::search;
 
 // What judging a command gives: the outcome of its checks, and for an accepted one how many AVPs stand in the log.
 pub(crate) struct Judgement {

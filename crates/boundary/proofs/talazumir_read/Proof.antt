@@ -4,7 +4,7 @@ use mathlib.Core.Path.{_≡_, ap, _∙_}
 use mathlib.Core.List.{List}
 use Prim.Native.Nat.{ℕ}
 use lib.ListN.{length}
-use Rattle.reader.proofs.Places.{length-mapped}
+use Rattle.lookup.proofs.Positions.{length-mapped}
 use Rattle.rules.specs.declared.Reading.{Reading}
 use Rattle.rules.specs.Walk.{mostAvps}
 use Rattle.rules.specs.Record.{reading}

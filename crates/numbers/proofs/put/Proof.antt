@@ -5,7 +5,7 @@ use mathlib.Core.List.{List}
 use Prim.Native.Nat.{ℕ, _≤_, _+_, _-_}
 use native.Mathlib.Omega.{arith}
 use lib.ListN.{length}
-use Rattle.reader.proofs.Places.{length-mapped}
+use Rattle.lookup.proofs.Positions.{length-mapped}
 use Rattle.numbers.specs.Numbers.{numbersOf}
 use Rattle.numbers.proofs.Numbers.{rest, rest-all, rest-next, rest-none}
 use Rattle.numbers.proofs.put.Statement.{statement}

@@ -6,7 +6,7 @@ use Prim.Native.Nat.{ℕ}
 use lib.ListN.{length}
 use Rattle.rules.specs.Walk.{mostAvps}
 use Rattle.rules.specs.Draft.{Draft}
-use Rattle.reader.proofs.Places.{length-mapped}
+use Rattle.lookup.proofs.Positions.{length-mapped}
 use Rattle.numbers.specs.Draft.{numberedDraft}
 use Rattle.numbers.proofs.Draft.{numbered-draft}
 use Rattle.writer.specs.Promise.{IsWritten}

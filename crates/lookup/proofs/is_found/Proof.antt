@@ -1,7 +1,7 @@
--- `reader::record::is_found` meets its contract.
+-- `lookup::is_found` meets its contract.
 use borrow.Author.Tests.{eq-eqb, ne-eqb}
-use Rattle.reader.proofs.record.is_found.Statement.{statement}
-use Rattle.reader.proofs.record.is_found.Tie as tie
+use Rattle.lookup.proofs.is_found.Statement.{statement}
+use Rattle.lookup.proofs.is_found.Tie as tie
 
 returns : tie.Need-returns
 returns c = rw (ne-eqb _ 1 (c .if1 .taken))

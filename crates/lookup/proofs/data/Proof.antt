@@ -1,4 +1,4 @@
--- `reader::record::data` meets its contract: block and place compute, since each part that is handed back is made of the
+-- `lookup::data` meets its contract: block and place compute, since each part that is handed back is made of the
 -- slice; the octets are those of that part.
 use borrow.Author.Needs.{needs}
 use mathlib.Core.Path.{_≡_, refl, ap}
@@ -7,9 +7,9 @@ use native.Mathlib.Omega.{arith}
 use lib.ListN.{length, take, drop}
 use Rattle.rules.specs.Search.{avpIn}
 use Rattle.rules.specs.Record.{dataStart, dataLength, dataAt}
-use Rattle.reader.proofs.Places.{lies-unused, lies-outside, lies-inside}
-use Rattle.reader.proofs.record.data.Statement.{statement}
-use Rattle.reader.proofs.record.data.Tie as tie
+use Rattle.lookup.proofs.Positions.{lies-unused, lies-outside, lies-inside}
+use Rattle.lookup.proofs.data.Statement.{statement}
+use Rattle.lookup.proofs.data.Tie as tie
 
 sub-nothing : tie.Need-sub-nothing
 sub-nothing c = search needs

@@ -1,4 +1,4 @@
--- `reader::record::search` meets its contract. What is left of the search at i is the whole search.
+-- `lookup::search` meets its contract. What is left of the search at i is the whole search.
 use borrow.Author.Needs.{needs}
 use mathlib.Core.Path.{_≡_, sym, _∙_}
 use Prim.Native.Nat.{_≤_, _-_}
@@ -6,9 +6,9 @@ use native.Mathlib.Omega.{arith}
 use lib.ListN.{length}
 use Rattle.rules.specs.Record.{searchRecord}
 use Rattle.rules.proofs.Outcomes.{answers}
-use Rattle.reader.proofs.Places.{length-mapped, searchLeft, search-all, search-end, search-here, search-later}
-use Rattle.reader.proofs.record.search.Statement.{statement}
-use Rattle.reader.proofs.record.search.Tie as tie
+use Rattle.lookup.proofs.Positions.{length-mapped, searchLeft, search-all, search-end, search-here, search-later}
+use Rattle.lookup.proofs.search.Statement.{statement}
+use Rattle.lookup.proofs.search.Tie as tie
 
 abbrev Inv-loop : tie.InvT-loop
 Inv-loop vendor code «record» count i₀ i = (i ≤ 256) × ((count ≡ «record» .count) × ((full : length («record» .avps) ≡ 256) → searchLeft «record» full vendor code i ≡ searchRecord «record» vendor code))

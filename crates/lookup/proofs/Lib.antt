@@ -1,0 +1,2 @@
+-- The laws behind the proofs of data and search, which other crates cite.
+pub mod Positions
