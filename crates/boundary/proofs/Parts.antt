@@ -10,10 +10,10 @@ use lib.ListN.{length, take, drop}
 use Rattle.rules.specs.declared.Avp.{Avp}
 use Rattle.rules.specs.Walk.{mostAvps}
 use Rattle.rules.specs.Avp.{named}
-use Rattle.rules.specs.Search.{avpIn}
+use Rattle.rules.specs.Search.{avpIn, positionOf}
 use Rattle.reader.proofs.Places.{data-unused, data-outside, data-inside, searchLeft, search-all, search-end, search-here, search-later}
 use Rattle.numbers.specs.Numbers.{numberedAvp, numberedCount, numberedRecord}
-use Rattle.boundary.specs.Parts.{part, noPart, partAt, IsData, positionOf, searchNumbers}
+use Rattle.boundary.specs.Parts.{part, noPart, partAt, IsData, searchNumbers}
 use Rattle.numbers.proofs.Numbers.{avps-full, avp-in, count-in}
 
 module _ (numbers : List ℕ) (i : ℕ) (s : List ℕ) where

@@ -7,14 +7,13 @@ use mathlib.Core.Bool.{cond}
 use lib.ListN.{length, take, drop, replicate}
 use lib.Dec.{ltb, leb}
 use Rattle.rules.specs.declared.Avp.{Avp}
-use Rattle.rules.specs.declared.Found.{Found}
-use Rattle.rules.specs.declared.Found.the-variants.{At, Nothing}
 use Rattle.rules.specs.declared.Verdict.{Verdict}
 use Rattle.rules.specs.declared.Outcome.{Outcome}
 use Rattle.rules.specs.declared.Outcome.the-variants.{Refused}
 use Rattle.rules.specs.Walk.{mostAvps}
 use Rattle.rules.specs.Command.{commandOutcome, commandVerdict}
 use Rattle.rules.specs.Record.{reading, dataAt, searchRecord}
+use Rattle.rules.specs.Search.{positionOf}
 use Rattle.rules.specs.Draft.{draftOf}
 use Rattle.numbers.specs.Numbers.{numbersOf, recordNumbers, numberedAvp, numberedCount, numberedRecord}
 use Rattle.numbers.specs.Draft.{numberedDraft}
@@ -38,11 +37,6 @@ partAt numbers i size = cond (ltb i (min (numberedCount numbers) mostAvps)) (par
 pub record IsData (numbers : List ℕ) (i : ℕ) (s : List ℕ) (r : Part) : Type 0 where
   pub is : r ≡ partAt numbers i (length s)
   pub octets : take (r .length) (drop (r .start) s) ≡ dataAt (numberedRecord numbers) i s
-
--- a position, 256 for none
-abbrev pub positionOf : Found → ℕ
-positionOf (At i) = i
-positionOf Nothing = mostAvps
 
 -- what `talazumir_search` gives
 unfoldable pub searchNumbers : List ℕ → ℕ → ℕ → ℕ
