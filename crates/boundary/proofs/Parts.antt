@@ -4,24 +4,27 @@ use mathlib.Core.Bool.{true, false, _&&_}
 use mathlib.Core.List.{List, []}
 use Prim.Native.Nat.{ℕ, _+_, _≤_, _<_, min}
 use native.Mathlib.Omega.{arith}
-use borrow.Author.Tests.{lt-ltb, le-ltb, le-leb, lt-leb}
 use lib.Dec.{eqb}
 use lib.ListN.{length, take, drop}
 use Rattle.rules.specs.declared.Avp.{Avp}
 use Rattle.rules.specs.Walk.{mostAvps}
 use Rattle.rules.specs.Avp.{named}
-use Rattle.rules.specs.Search.{avpIn}
-use Rattle.lookup.proofs.Positions.{data-unused, data-outside, data-inside, searchLeft, search-all, search-end, search-here, search-later}
+use Rattle.rules.specs.Search.{avpIn, positionOf}
+use Rattle.rules.specs.Record.{dataStart, dataLength}
+use Rattle.lookup.proofs.Positions.{lies-unused, lies-outside, lies-inside, data-unused, data-outside, data-inside, searchLeft, search-all, search-end, search-here, search-later}
 use Rattle.numbers.specs.Numbers.{numberedAvp, numberedCount, numberedRecord}
-use Rattle.boundary.specs.Parts.{part, noPart, partAt, IsData, positionOf, searchNumbers}
+use Rattle.boundary.specs.Parts.{part, noPart, partAt, IsData, searchNumbers}
 use Rattle.numbers.proofs.Numbers.{avps-full, avp-in, count-in}
 
 module _ (numbers : List ℕ) (i : ℕ) (s : List ℕ) where
   pub part-unused : min (numberedCount numbers) mostAvps ≤ i → IsData numbers i s noPart
-  unfolding partAt
+  unfolding partAt dataStart dataLength
   part-unused h =
       let k : min (numberedRecord numbers .count) mostAvps ≤ i = rw (count-in numbers) h in
-      record { is = rw (le-ltb i (min (numberedCount numbers) mostAvps) h); octets = sym (data-unused (numberedRecord numbers) i s k) }
+      record {
+        is = rw (lies-unused (numberedRecord numbers) i (length s) k);
+        octets = sym (data-unused (numberedRecord numbers) i s k);
+      }
 
   module _ (used : i < min (numberedCount numbers) mostAvps) where
     in-record : i < min (numberedRecord numbers .count) mostAvps
@@ -32,20 +35,20 @@ module _ (numbers : List ℕ) (i : ℕ) (s : List ℕ) where
       avp-here = avp-in numbers i (omega arith) ∙ sym is
 
       pub part-outside : length s < a .start + a .length → IsData numbers i s noPart
-      unfolding partAt
+      unfolding partAt dataStart dataLength
       part-outside h =
           let k : length s < avpIn (numberedRecord numbers .avps) i .start + avpIn (numberedRecord numbers .avps) i .length = rw avp-here h in
           record {
-            is = rw (lt-ltb i (min (numberedCount numbers) mostAvps) used, ← is, lt-leb (a .start + a .length) (length s) h);
+            is = rw (lies-outside (numberedRecord numbers) i (length s) in-record k);
             octets = sym (data-outside (numberedRecord numbers) i s in-record k);
           }
 
       pub part-inside : a .start + a .length ≤ length s → IsData numbers i s (part (a .start) (a .length))
-      unfolding partAt
+      unfolding partAt dataStart dataLength
       part-inside h =
           let k : avpIn (numberedRecord numbers .avps) i .start + avpIn (numberedRecord numbers .avps) i .length ≤ length s = rw avp-here h in
           record {
-            is = rw (lt-ltb i (min (numberedCount numbers) mostAvps) used, ← is, le-leb (a .start + a .length) (length s) h);
+            is = rw (lies-inside (numberedRecord numbers) i (length s) in-record k, avp-here);
             octets =
                 ap (λ (x : Avp). take (x .length) (drop (x .start) s)) (sym avp-here)
                 ∙ sym (data-inside (numberedRecord numbers) i s in-record k);

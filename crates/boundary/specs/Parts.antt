@@ -1,48 +1,37 @@
 -- What the boundary hands back for a record as numbers: the part of a slice that an AVP's data is, as start and length, and
 -- the position that a search finds, as a number.
 use mathlib.Core.Path.{_≡_}
-use Prim.Native.Nat.{ℕ, _+_, min}
+use Prim.Native.Nat.{ℕ}
 use mathlib.Core.List.{List}
-use mathlib.Core.Bool.{cond}
 use lib.ListN.{length, take, drop, replicate}
-use lib.Dec.{ltb, leb}
-use Rattle.rules.specs.declared.Avp.{Avp}
-use Rattle.rules.specs.declared.Found.{Found}
-use Rattle.rules.specs.declared.Found.the-variants.{At, Nothing}
 use Rattle.rules.specs.declared.Verdict.{Verdict}
 use Rattle.rules.specs.declared.Outcome.{Outcome}
 use Rattle.rules.specs.declared.Outcome.the-variants.{Refused}
-use Rattle.rules.specs.Walk.{mostAvps}
 use Rattle.rules.specs.Command.{commandOutcome, commandVerdict}
-use Rattle.rules.specs.Record.{reading, dataAt, searchRecord}
+use Rattle.rules.specs.Record.{reading, dataStart, dataLength, dataAt, searchRecord}
+use Rattle.rules.specs.Search.{positionOf}
 use Rattle.rules.specs.Draft.{draftOf}
-use Rattle.numbers.specs.Numbers.{numbersOf, recordNumbers, numberedAvp, numberedCount, numberedRecord}
+use Rattle.numbers.specs.Numbers.{numbersOf, recordNumbers, numberedRecord}
 use Rattle.numbers.specs.Draft.{numberedDraft}
 use Rattle.boundary.specs.declared.Part.{Part}
 
+-- a part by its start and its length
 abbrev pub part : ℕ → ℕ → Part
-part start length = record { start = start; length = length }
+part start size = record { start = start; length = size }
 
+-- the empty part at the start
 abbrev pub noPart : Part
 noPart = part 0 0
 
--- the part of a slice of this size, none where the data does not lie in it
-abbrev pub partOf : Avp → ℕ → Part
-partOf a size = cond (leb (a .start + a .length) size) (part (a .start) (a .length)) noPart
-
--- the part for a position, none where it is unused; a count above 256 is read as 256
+-- the part of a slice of this size that is the data of a position, by its start and its length
 unfoldable pub partAt : List ℕ → ℕ → ℕ → Part
-partAt numbers i size = cond (ltb i (min (numberedCount numbers) mostAvps)) (partOf (numberedAvp numbers i) size) noPart
+partAt numbers i size =
+    part (dataStart (numberedRecord numbers) i size) (dataLength (numberedRecord numbers) i size)
 
--- what `talazumir_data` gives: the part, whose octets are the data of that position of the record
+-- what `talazumir_data` gives: that part, whose octets are the data of that position of the record
 pub record IsData (numbers : List ℕ) (i : ℕ) (s : List ℕ) (r : Part) : Type 0 where
   pub is : r ≡ partAt numbers i (length s)
   pub octets : take (r .length) (drop (r .start) s) ≡ dataAt (numberedRecord numbers) i s
-
--- a position, 256 for none
-abbrev pub positionOf : Found → ℕ
-positionOf (At i) = i
-positionOf Nothing = mostAvps
 
 -- what `talazumir_search` gives
 unfoldable pub searchNumbers : List ℕ → ℕ → ℕ → ℕ

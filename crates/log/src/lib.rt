@@ -30,7 +30,7 @@ fn length_of(start: u32, end: u32) -> u32
 }
 
 // How many numbers a slice holds.
-pub fn length(numbers: &[u32]) -> usize
+fn slice_size(numbers: &[u32]) -> usize
     ensures { λ r. ⌜ r ≡ length (now (numbers .entry)) ⌝ }
 {
     numbers.len()
@@ -40,7 +40,7 @@ pub fn length(numbers: &[u32]) -> usize
 pub fn size(log: &[u32; limits::LOG_NUMBERS]) -> usize
     ensures { λ r. ⌜ (r ≡ logNumbers) × (length (now (log .entry)) ≡ logNumbers) ⌝ }
 {
-    length(log)
+    slice_size(log)
 }
 
 // A count above 256 is read as 256.
