@@ -18,7 +18,7 @@ pub struct Part {
     pub length: usize,
 }
 
-// The verdict of a command, its walk in a lent log.
+// The verdict of a command. The lent log is scratch memory for its walk: after a refusal what it holds is no record.
 #[no_mangle]
 pub extern "C" fn talazumir_verdict(s: &[u8], log: &mut [u32; limits::LOG_NUMBERS]) -> Verdict
     ensures { λ r. ⌜ Judged (now (s .entry)) (now (log .entry)) r (now (log .exit)) ⌝ }
@@ -32,7 +32,8 @@ pub extern "C" fn talazumir_read(s: &[u8], numbers: &mut [u32; limits::RECORD_NU
     ensures { λ r. ⌜ IsRead (now (s .entry)) r (now (numbers .exit)) ⌝ }
 {
     let reading = reader::read(s);
-    numbers::put(numbers, reading.record);
+    let record = reading.record;
+    numbers::put(numbers, record);
     reading.verdict
 }
 

@@ -186,10 +186,10 @@ fn is_formed(numbers: &[u32; limits::RECORD_NUMBERS], s: &[u8]) -> bool
 pub fn is_well_formed(numbers: &[u32; limits::RECORD_NUMBERS], s: &[u8]) -> bool
     ensures { λ r. ⌜ r ≡ isWellFormed (numberedDraft (now (numbers .entry)) (now (s .entry))) ⌝ }
 {
-    if !numbers::flags_fit(numbers) {
-        return false;
+    if numbers::flags_fit(numbers) {
+        return is_formed(numbers, s);
     }
-    is_formed(numbers, s)
+    false
 }
 
 // The octets of the command of a draft, where it is well formed: the header and the members at depth 1.

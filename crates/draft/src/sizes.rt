@@ -10,19 +10,14 @@ use rules::Avp;
 use rules::kinds::NO_VENDOR;
 use rules::limits;
 
-// The octets of an AVP's header, without Vendor-Id and with it.
-const AVP_HEADER_SIZE: usize = 8;
-
-const AVP_HEADER_SIZE_WITH_VENDOR: usize = 12;
-
 // V is set exactly when the vendor is not 0.
 fn header_size(vendor: u32) -> usize
     ensures { λ r. ⌜ r ≡ headerOf (not (eqb vendor 0)) ⌝ }
 {
     if vendor == NO_VENDOR {
-        return AVP_HEADER_SIZE;
+        return limits::AVP_HEADER_SIZE;
     }
-    AVP_HEADER_SIZE_WITH_VENDOR
+    limits::AVP_HEADER_SIZE_WITH_VENDOR
 }
 
 // The octets of an AVP with its padding.

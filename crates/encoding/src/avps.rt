@@ -13,11 +13,6 @@ use rules::Avp;
 use rules::kinds::NO_VENDOR;
 use rules::limits;
 
-// The octets of an AVP's header, without Vendor-Id and with it.
-const AVP_HEADER_SIZE: usize = 8;
-
-const AVP_HEADER_SIZE_WITH_VENDOR: usize = 12;
-
 // An AVP's header, with the vendor where it is not 0.
 fn put_header(out: &mut [u8], at: usize, a: Avp) -> usize
     requires { ⌜ at + headerFor a ≤ length (now out) ⌝ }
@@ -26,12 +21,16 @@ fn put_header(out: &mut [u8], at: usize, a: Avp) -> usize
     output::put_number4(out, at, a.code);
     out[at + 4] = flags::avp_flags(a);
     if a.vendor == NO_VENDOR {
-        output::put_number3(out, at + 5, AVP_HEADER_SIZE + a.length as usize);
-        return at + AVP_HEADER_SIZE;
+        output::put_number3(out, at + 5, limits::AVP_HEADER_SIZE + a.length as usize);
+        return at + limits::AVP_HEADER_SIZE;
     }
-    output::put_number3(out, at + 5, AVP_HEADER_SIZE_WITH_VENDOR + a.length as usize);
-    output::put_number4(out, at + AVP_HEADER_SIZE, a.vendor);
-    at + AVP_HEADER_SIZE_WITH_VENDOR
+    output::put_number3(
+        out,
+        at + 5,
+        limits::AVP_HEADER_SIZE_WITH_VENDOR + a.length as usize,
+    );
+    output::put_number4(out, at + limits::AVP_HEADER_SIZE, a.vendor);
+    at + limits::AVP_HEADER_SIZE_WITH_VENDOR
 }
 
 // An AVP, with padding of zeros; of a read group its header, the members follow.

@@ -8,6 +8,7 @@ ghost use Rattle.numbers.specs.Numbers.{numberedRecord};
 ghost use Rattle.draft.specs.Drafts.{draftCell};
 ghost use Rattle.encoding.specs.Promise.{IsFlag};
 use rules::Avp;
+use rules::flags;
 use rules::kinds::NO_VENDOR;
 use rules::limits;
 
@@ -24,7 +25,9 @@ fn flag(on: bool, value: u8) -> u8
 pub(crate) fn avp_flags(a: Avp) -> u8
     ensures { λ r. ⌜ ((s : List ℕ) → r ≡ avpFlags (draftCell s a)) ⌝ }
 {
-    flag(a.vendor != NO_VENDOR, 128) + flag(a.m, 64) + flag(a.p, 32)
+    flag(a.vendor != NO_VENDOR, flags::VENDOR)
+        + flag(a.m, flags::MANDATORY)
+        + flag(a.p, flags::PROTECTED)
 }
 
 // R, P, E, T.
@@ -32,5 +35,8 @@ pub(crate) fn command_flags(numbers: &[u32; limits::RECORD_NUMBERS]) -> u8
     ensures { λ r. ⌜ ((s : List ℕ) → r ≡ flagsOctet (draftMeaning (draftOf (numberedRecord (now (numbers .entry))) s))) ⌝ }
 {
     let head = numbers::head_of(numbers);
-    flag(head.r, 128) + flag(head.p, 64) + flag(head.e, 32) + flag(head.t, 16)
+    flag(head.r, flags::REQUEST)
+        + flag(head.p, flags::PROXIABLE)
+        + flag(head.e, flags::ERROR)
+        + flag(head.t, flags::RETRANSMITTED)
 }

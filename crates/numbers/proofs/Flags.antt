@@ -4,6 +4,7 @@ use mathlib.Core.Bool.{true, false, _&&_}
 use mathlib.Core.List.{List}
 use Prim.Native.Nat.{ℕ, suc, _+_, _-_, _≤_, _<_}
 use native.Mathlib.Omega.{arith}
+use Rattle.rules.specs.Walk.{mostAvps}
 use Rattle.numbers.specs.Flags.{headFlagsFit, avpFlagsFit, flagsFitFrom, flagsFit}
 
 module _ (numbers : List ℕ) where
@@ -11,26 +12,26 @@ module _ (numbers : List ℕ) where
   unfolding flagsFit
   fit-head-not e = rw e
 
-  pub fit-all : headFlagsFit numbers ≡ true → flagsFitFrom numbers 0 256 ≡ flagsFit numbers
+  pub fit-all : headFlagsFit numbers ≡ true → flagsFitFrom numbers 0 mostAvps ≡ flagsFit numbers
   unfolding flagsFit
   fit-all e = rw e
 
-  left-next : (i : ℕ) → i < 256
-      → flagsFitFrom numbers i (256 - i) ≡ (avpFlagsFit numbers i && flagsFitFrom numbers (i + 1) (256 - (i + 1)))
+  left-next : (i : ℕ) → i < mostAvps
+      → flagsFitFrom numbers i (mostAvps - i) ≡ (avpFlagsFit numbers i && flagsFitFrom numbers (i + 1) (mostAvps - (i + 1)))
   unfolding flagsFitFrom
   left-next i h =
-      let e : 256 - i ≡ suc (256 - (i + 1)) = omega arith in
+      let e : mostAvps - i ≡ suc (mostAvps - (i + 1)) = omega arith in
       ap (flagsFitFrom numbers i) e
 
-  module _ (i : ℕ) (h : i < 256) where
-    pub fit-stop : avpFlagsFit numbers i ≡ false → flagsFitFrom numbers i (256 - i) ≡ false
+  module _ (i : ℕ) (h : i < mostAvps) where
+    pub fit-stop : avpFlagsFit numbers i ≡ false → flagsFitFrom numbers i (mostAvps - i) ≡ false
     fit-stop e = left-next i h ∙ rw e
 
-    pub fit-on : avpFlagsFit numbers i ≡ true → flagsFitFrom numbers i (256 - i) ≡ flagsFitFrom numbers (i + 1) (256 - (i + 1))
+    pub fit-on : avpFlagsFit numbers i ≡ true → flagsFitFrom numbers i (mostAvps - i) ≡ flagsFitFrom numbers (i + 1) (mostAvps - (i + 1))
     fit-on e = left-next i h ∙ rw e
 
-  pub fit-end : (i : ℕ) → 256 ≤ i → flagsFitFrom numbers i (256 - i) ≡ true
+  pub fit-end : (i : ℕ) → mostAvps ≤ i → flagsFitFrom numbers i (mostAvps - i) ≡ true
   unfolding flagsFitFrom
   fit-end i h =
-      let e : 256 - i ≡ 0 = omega arith in
+      let e : mostAvps - i ≡ 0 = omega arith in
       ap (flagsFitFrom numbers i) e

@@ -158,12 +158,12 @@ pub fn flags_fit(numbers: &[u32; limits::RECORD_NUMBERS]) -> bool
     if !head_flags_fit(numbers) {
         return false;
     }
-    let mut i: usize = 0;
-    while i < limits::MOST_AVPS {
-        if !avp_flags_fit(numbers, i) {
+    let mut position: usize = 0;
+    while position < limits::MOST_AVPS {
+        if !avp_flags_fit(numbers, position) {
             return false;
         }
-        i += 1;
+        position += 1;
     }
     true
 }

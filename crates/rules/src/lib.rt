@@ -41,7 +41,7 @@ pub struct Record {
     pub hop_by_hop: u32,
     pub end_to_end: u32,
     pub count: u32,
-    pub avps: [Avp; 256],
+    pub avps: [Avp; limits::MOST_AVPS],
 }
 
 // What reading a command gives. With a refusal the record is the empty one.

@@ -1,7 +1,7 @@
 -- What a write call answers and leaves: the writer's own refusals, and then what the reader says.
 use mathlib.Core.Path.{_≡_, refl, sym, ap, _∙_}
 use mathlib.Core.Bool.{true, false, not}
-use mathlib.Core.List.{List, _++_}
+use mathlib.Core.List.{List, [], _++_}
 use Prim.Native.Nat.{ℕ, _+_, _≤_}
 use native.Mathlib.Nat.{zero-add}
 use native.Mathlib.Omega.{arith}
@@ -20,13 +20,13 @@ use Rattle.rules.specs.Draft.{Draft, isWellFormed}
 use Rattle.rules.specs.Writer.{draftOctets, draftOutcome, octetsWritten, writing, outputAfter, ownOutcome}
 use Rattle.rules.proofs.Walk.{by-cases, never}
 use Rattle.encoding.specs.Encoding.{encodedOctets}
-use Rattle.writer.specs.Promise.{IsWritten, CanWrite, IsJudged}
+use Rattle.writer.specs.Promise.{IsWritten, CanWrite, answerBy, IsJudged}
 
 -- ---- octets, judged
 
 module _ (xs out : List ℕ) (o : Outcome) (is : o ≡ commandOutcome xs) where
-  pub judged-refused : {v : Verdict} → o ≡ Refused v → IsJudged xs out (record { verdict = v; length = 0 }) out
-  judged-refused e = record { answer = rw (← is, e); left = rw (← is, e) }
+  pub judged-refused : {v : Verdict} → o ≡ Refused v → (w : Written) → w ≡ answerBy (Refused v) [] → IsJudged xs out w out
+  judged-refused e w r = record { answer = r ∙ rw (← is, e); left = rw (← is, e) }
 
   pub judged-accepted : o ≡ Pass → (size : ℕ) → size ≡ length xs → size ≤ length out
       → (v : Verdict) → v ≡ verdict 0 0 0 0 → (after : List ℕ) → after ≡ sets out 0 xs
@@ -64,11 +64,11 @@ module _ (d : Draft) (room : ℕ) where
 
 module _ (d : Draft) (out : List ℕ) where
   pub written-refused : {v : Verdict} → ownOutcome d (length out) ≡ Refused v
-      → IsWritten d out (record { verdict = v; length = 0 }) out
+      → (w : Written) → w ≡ answerBy (Refused v) [] → IsWritten d out w out
   unfolding writing octetsWritten outputAfter
-  written-refused o =
+  written-refused o w r =
       let e = outcome-own d (length out) ∙ ap (λ (x : Outcome). orElse x (commandOutcome (draftOctets d))) o in
-      record { answer = rw e; left = rw e }
+      record { answer = r ∙ rw e; left = rw e }
 
   -- the command that was encoded, in an array that has room for the longest
   module _ (own : ownOutcome d (length out) ≡ Pass) (size : ℕ) (is : size ≡ length (encodedOctets d (length out)))

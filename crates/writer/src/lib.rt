@@ -1,13 +1,15 @@
 // The writer of commands: from a draft, a record over lent octets, to a command in a lent output. A refused output stays
 // as it was, so the command is first put into an array of the longest command's size, and there the reader judges it.
 ghost use mathlib.Core.Path.{_≡_};
+ghost use mathlib.Core.List.{[]};
 ghost use lib.ListN.{length, take};
 ghost use Rattle.rules.specs.Header.{longestCommand};
 ghost use Rattle.rules.specs.Draft.{draftOf};
 ghost use Rattle.numbers.specs.Draft.{numberedDraft};
-ghost use Rattle.writer.specs.Promise.{CanWrite, IsJudged, IsWritten};
+ghost use Rattle.writer.specs.Promise.{answerBy, CanWrite, IsJudged, IsWritten};
 use rules::Outcome;
 use rules::Record;
+use rules::Verdict;
 use rules::Written;
 use rules::limits;
 
@@ -18,6 +20,16 @@ fn blank_command() -> [u8; limits::LONGEST_COMMAND]
     [0; limits::LONGEST_COMMAND]
 }
 
+// A refusal: nothing is written.
+fn refused(v: Verdict) -> Written
+    ensures { λ r. ⌜ r ≡ answerBy (Outcome.Refused v) [] ⌝ }
+{
+    Written {
+        verdict: v,
+        length: 0,
+    }
+}
+
 // A command of this size at the start of some octets, judged and, where it is accepted, copied out.
 fn write_command(command: &[u8], size: usize, out: &mut [u8]) -> Written
     requires { ⌜ CanWrite (now command) size (now out) ⌝ }
@@ -26,10 +38,7 @@ fn write_command(command: &[u8], size: usize, out: &mut [u8]) -> Written
     let mut log = [0u32; limits::LOG_NUMBERS];
     let outcome = reader::outcome(&command[..size], &mut log);
     if let Outcome::Refused(v) = outcome {
-        return Written {
-            verdict: v,
-            length: 0,
-        };
+        return refused(v);
     }
     output::put_octets(out, 0, &command[..size]);
     Written {
@@ -45,13 +54,10 @@ pub fn write_numbers(numbers: &[u32; limits::RECORD_NUMBERS], s: &[u8], out: &mu
 {
     let mut command = blank_command();
     let encoded = encoding::encode(numbers, s, out.len(), &mut command);
-    let outcome = encoded.outcome;
+    let own = encoded.outcome;
     let size = encoded.size;
-    if let Outcome::Refused(v) = outcome {
-        return Written {
-            verdict: v,
-            length: 0,
-        };
+    if let Outcome::Refused(fault) = own {
+        return refused(fault);
     }
     write_command(&command, size, out)
 }

@@ -28,7 +28,7 @@ full c = search (needs, length-mapped)
 returns : tie.Need-returns
 unfolding reading
 returns c =
-    let r = c .before .before .before in
+    let r = c .before .before .before .before in
     let s = r .before .before .args .s .now in
     let read = r .read .ensures in
     let put = c .before .put .ensures in

@@ -4,16 +4,17 @@ use mathlib.Core.Path.{_≡_, sym, _∙_}
 use Prim.Native.Nat.{_≤_, _-_}
 use native.Mathlib.Omega.{arith}
 use borrow.Author.Tests.{not-true, not-false}
+use Rattle.rules.specs.Walk.{mostAvps}
 use Rattle.numbers.specs.Flags.{flagsFitFrom, flagsFit}
 use Rattle.numbers.proofs.Flags.{fit-head-not, fit-all, fit-stop, fit-on, fit-end}
 use Rattle.numbers.proofs.flags_fit.Statement.{statement}
 use Rattle.numbers.proofs.flags_fit.Tie as tie
 
 abbrev Inv-loop : tie.InvT-loop
-Inv-loop numbers i₀ i = (i ≤ 256) × (flagsFitFrom numbers i (256 - i) ≡ flagsFit numbers)
+Inv-loop numbers position₀ position = (position ≤ mostAvps) × (flagsFitFrom numbers position (mostAvps - position) ≡ flagsFit numbers)
 
 abbrev μ-loop : tie.MeasureT-loop
-μ-loop numbers i₀ i = 256 - i
+μ-loop numbers position₀ position = mostAvps - position
 
 head-flags-fit-requires : tie.Need-head-flags-fit-requires Inv-loop μ-loop
 head-flags-fit-requires c κs = search needs
@@ -41,11 +42,11 @@ returns-2 c =
     let at-loop = at-loop-test .before in
     let start = at-loop .before .before .before in
     let here = sym (at-avp-flags-fit .avp-flags-fit .ensures) ∙ not-true _ (c .if2 .taken) in
-    sym (fit-stop (start .args .numbers .now) (at-loop .loop .i) (at-loop-test .loop-test .taken) here) ∙ at-loop
+    sym (fit-stop (start .args .numbers .now) (at-loop .loop .position) (at-loop-test .loop-test .taken) here) ∙ at-loop
     .loop .inv .1
 
-add-i : tie.Need-add-i Inv-loop μ-loop
-add-i c = search needs
+add-position : tie.Need-add-position Inv-loop μ-loop
+add-position c = search needs
 
 loop-less : tie.Need-loop-less Inv-loop μ-loop
 loop-less c = search needs
@@ -57,13 +58,13 @@ loop-again c =
     let at-loop = at-loop-test .before in
     let start = at-loop .before .before .before in
     let here = sym (at-avp-flags-fit .avp-flags-fit .ensures) ∙ not-false _ (c .if2 .left) in
-    (omega arith, sym (fit-on (start .args .numbers .now) (at-loop .loop .i) (at-loop-test .loop-test .taken) here) ∙ at-loop .loop .inv .1)
+    (omega arith, sym (fit-on (start .args .numbers .now) (at-loop .loop .position) (at-loop-test .loop-test .taken) here) ∙ at-loop .loop .inv .1)
 
 returns-3 : tie.Need-returns-3 Inv-loop μ-loop
 returns-3 c =
     let at-loop = c .before in
     let start = at-loop .before .before .before in
-    sym (fit-end (start .args .numbers .now) (at-loop .loop .i) (c .loop-test .left)) ∙ at-loop .loop .inv .1
+    sym (fit-end (start .args .numbers .now) (at-loop .loop .position) (c .loop-test .left)) ∙ at-loop .loop .inv .1
 
 pub flags-fit-spec : {M : Type 1} → statement M
 flags-fit-spec =
@@ -76,7 +77,7 @@ flags-fit-spec =
     loop-holds
     avp-flags-fit-requires
     returns-2
-    add-i
+    add-position
     loop-less
     loop-again
     returns-3)

@@ -5,6 +5,7 @@ use mathlib.Core.List.{List}
 use Prim.Native.Nat.{ℕ, _≤_, _+_, _-_}
 use native.Mathlib.Omega.{arith}
 use lib.ListN.{length}
+use Rattle.rules.specs.Walk.{mostAvps}
 use Rattle.lookup.proofs.Positions.{length-mapped}
 use Rattle.numbers.specs.Numbers.{numbersOf}
 use Rattle.numbers.proofs.Numbers.{rest, rest-all, rest-next, rest-none}
@@ -12,12 +13,12 @@ use Rattle.numbers.proofs.put.Statement.{statement}
 use Rattle.numbers.proofs.put.Tie as tie
 
 abbrev Inv-loop : tie.InvT-loop
-Inv-loop numbers₀ «record» i₀ numbers i = (i ≤ 256) × ((f : length («record» .avps) ≡ 256) → rest «record» f numbers i ≡ numbersOf «record»)
+Inv-loop numbers₀ «record» i₀ numbers i = (i ≤ mostAvps) × ((f : length («record» .avps) ≡ mostAvps) → rest «record» f numbers i ≡ numbersOf «record»)
 
 abbrev μ-loop : tie.MeasureT-loop
-μ-loop numbers₀ «record» i₀ numbers i = 256 - i
+μ-loop numbers₀ «record» i₀ numbers i = mostAvps - i
 
-full : (st : tie.Start Inv-loop μ-loop) → length (st .args .t2 .avps) ≡ 256
+full : (st : tie.Start Inv-loop μ-loop) → length (st .args .t2 .avps) ≡ mostAvps
 full st = search (needs, length-mapped)
 
 size-requires : tie.Need-size-requires Inv-loop μ-loop

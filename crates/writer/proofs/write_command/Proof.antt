@@ -20,13 +20,16 @@ outcome-requires c κs = search needs
 enum-known-outcome : tie.Need-enum-known-outcome
 enum-known-outcome c = search needs
 
+refused-requires : tie.Need-refused-requires
+refused-requires c κs = search needs
+
 returns : tie.Need-returns
 returns c =
-    let at-outcome2 = c .before in
+    let at-outcome2 = c .before .before in
     let at-outcome = at-outcome2 .before .before in
     let a = at-outcome .before .before .before .before .before .args in
     judged-refused (take (a .size) (a .command .now)) (a .out .now) _ (at-outcome .outcome .ensures .answer)
-    (at-outcome2 .outcome2 .given .1)
+    (at-outcome2 .outcome2 .given .1) _ (c .refused .ensures)
 
 enum-told : tie.Need-enum-told
 enum-told c = search needs
@@ -69,6 +72,7 @@ write-command-spec =
     slice-aggregate-outcome
     outcome-requires
     enum-known-outcome
+    refused-requires
     returns
     enum-told
     slice-aggregate-put-octets

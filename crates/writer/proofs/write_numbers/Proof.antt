@@ -15,16 +15,19 @@ blank-command-requires c κs = search needs
 encode-requires : tie.Need-encode-requires
 encode-requires c κs = search needs
 
-enum-known-outcome : tie.Need-enum-known-outcome
-enum-known-outcome c = search needs
+enum-known-own : tie.Need-enum-known-own
+enum-known-own c = search needs
+
+refused-requires : tie.Need-refused-requires
+refused-requires c κs = search needs
 
 returns : tie.Need-returns
 returns c =
-    let at-outcome = c .before in
-    let at-encode = at-outcome .before .before in
+    let at-own = c .before .before in
+    let at-encode = at-own .before .before in
     let a = at-encode .before .before .before .before .before .args in
-    let own = sym (at-encode .encode .ensures .outcome) ∙ at-outcome .outcome .given .1 in
-    written-refused (numberedDraft (a .numbers .now) (a .s .now)) (a .out .now) own
+    let refusal = sym (at-encode .encode .ensures .outcome) ∙ at-own .own .given .1 in
+    written-refused (numberedDraft (a .numbers .now) (a .s .now)) (a .out .now) refusal _ (c .refused .ensures)
 
 enum-told : tie.Need-enum-told
 enum-told c = search needs
@@ -73,7 +76,8 @@ write-numbers-spec =
     (tie.spec
     blank-command-requires
     encode-requires
-    enum-known-outcome
+    enum-known-own
+    refused-requires
     returns
     enum-told
     slice-aggregate-write-command
