@@ -9,7 +9,7 @@ use borrow.Author.Tests.{lt-ltb, le-ltb}
 use lib.ListN.{length, drop}
 use lib.Seq.{sets, sets-eq}
 use Rattle.rules.specs.declared.Outcome.the-variants.{Pass}
-use Rattle.rules.specs.Verdict.{refused}
+use Rattle.rules.specs.Verdict.{refused, verdictOf}
 use Rattle.rules.specs.Header.{headerSize, longestCommand}
 use Rattle.rules.specs.Draft.{Draft, draftOf, draftMeaning, isWellFormed}
 use Rattle.rules.specs.Writer.{draftOctets, ownOutcome}
@@ -55,6 +55,7 @@ module _ (d : Draft) (room : ℕ) where
     unfolding encodedOctets
     encoded-not number o r e = record {
       outcome = ap (λ (x : Encoded). x .outcome) e ∙ sym o;
+      told = ap verdictOf (ap (λ (x : Encoded). x .outcome) e ∙ sym o);
       size = ap (λ (x : Encoded). x .size) e ∙ rw o;
       left = rw o;
     }
@@ -68,6 +69,7 @@ module _ (d : Draft) (room : ℕ) where
         let fits : 0 + length xs ≤ length before = omega arith in
         record {
           outcome = sym o;
+          told = ap verdictOf (sym o);
           size = rw (o, z);
           left = a ∙ sets-eq xs before 0 fits ∙ ap (λ (n : ℕ). xs ++ drop n before) (zero-add (length xs)) ∙ rw o;
         }
