@@ -1,24 +1,26 @@
 -- The number that comes back is 0 or one of the table: the reader's, and for a draft those of the writer too. The table
 -- lacks 0 but for acceptance, so the number is 0 exactly when the command, or the draft, is accepted.
 use mathlib.Core.Path.{_≡_, refl, sym, ap, _∙_}
-use mathlib.Core.Bool.{Bool, true, false}
+use mathlib.Core.Bool.{Bool, true, false, not, _&&_, _||_}
 use mathlib.Core.List.{List, _∷_}
 use mathlib.Core.Logic.{_↔_}
-use Prim.Native.Nat.{ℕ}
-use borrow.Author.Tests.{ne-eqb}
-use lib.Dec.{eqb}
+use Prim.Native.Nat.{ℕ, _≤_}
+use native.Mathlib.Omega.{arith}
+use borrow.Author.Tests.{lt-ltb, ltb-true, eq-eqb, ne-eqb}
+use lib.Dec.{ltb, eqb}
 use lib.ListN.{length}
 use Rattle.rules.specs.declared.Verdict.{Verdict}
 use Rattle.rules.specs.declared.Outcome.{Outcome}
 use Rattle.rules.specs.declared.Outcome.the-variants.{Pass, Refused}
-use Rattle.rules.specs.Verdict.{readerNumbers, writerOnlyNumbers, writerNumbers, isAmong, verdict, verdictOf}
-use Rattle.rules.specs.Header.{commandFlags, isRequest, headerOutcome}
+use Rattle.rules.specs.Verdict.{readerNumbers, writerOnlyNumbers, writerNumbers, isAmong, verdictOf}
+use Rattle.rules.specs.Header.{commandFlags, isRequest, headerOutcome, longestCommand}
 use Rattle.rules.specs.Dictionary.{dictionary}
 use Rattle.rules.specs.Walk.{Walked, whole, stopped, stopOf}
 use Rattle.rules.specs.Command.{commandGrammar, ownList, walkOf, listsOutcome, walkedOutcome, commandOutcome, commandVerdict}
 use Rattle.rules.specs.Draft.{Draft}
 use Rattle.rules.specs.Writer.{draftOctets, ownOutcome, draftOutcome, writing}
-use Rattle.rules.proofs.Tests.{or-right}
+use Rattle.rules.specs.Order.{fitsTable}
+use Rattle.rules.proofs.Tests.{and-true, or-right}
 use Rattle.rules.proofs.Walk.{never}
 use Rattle.rules.proofs.demands.items.Lists.{not-both}
 use Rattle.rules.proofs.demands.numbering.Refusals.{meets, HeaderRefusals, AvpRefusals, either, both, in-turn, header-meets, walk-meets}
@@ -40,31 +42,23 @@ module _ (s : List ℕ) (t : Verdict → Bool) (h : HeaderRefusals s t) (r : Avp
       in-turn t (headerOutcome s) _ (header-meets s t h)
       (lists-meet (walkOf s) (walk-meets t r (length s) dictionary s (ownList s)))
 
--- and of the verdict, if it holds of acceptance
-told-meets : (t : Verdict → Bool) (o : Outcome) → t (verdict 0 0 0 0) ≡ true → meets t o ≡ true → t (verdictOf o) ≡ true
-unfolding meets
-told-meets t Pass z h = z
-told-meets t (Refused v) z h = h
+-- ---- the reader's test: the number is of the table, place, vendor and code go with it, and 7001 is for longer commands
 
--- ---- the numbers
+abbrev onlyLong : List ℕ → Verdict → Bool
+onlyLong s v = not (eqb (v .number) 7001) || ltb longestCommand (length s)
 
--- a refusal's number is one of a list
-abbrev numberIn : List ℕ → Outcome → Bool
-numberIn ns = meets (λ v. isAmong ns (v .number))
+abbrev isReaders : List ℕ → Verdict → Bool
+isReaders s v = isAmong readerNumbers (v .number) && fitsTable v && onlyLong s v
 
--- it is one of the reader's
-abbrev isNumbered : Outcome → Bool
-isNumbered = numberIn readerNumbers
-
-command-numbered : (s : List ℕ) → isNumbered (commandOutcome s) ≡ true
-unfolding readerNumbers
-command-numbered s =
-    command-meets s (λ v. isAmong readerNumbers (v .number))
+command-readers : (s : List ℕ) → meets (isReaders s) (commandOutcome s) ≡ true
+unfolding readerNumbers fitsTable
+command-readers s =
+    command-meets s (isReaders s)
     (record {
       few = refl;
       version = refl;
       field = refl;
-      long = λ h. refl;
+      long = λ h. lt-ltb longestCommand (length s) h;
       application = refl;
       code = refl;
       bits = refl;
@@ -81,6 +75,51 @@ command-numbered s =
       full = λ place. refl;
       deep = λ place vendor code. refl;
     })
+
+-- place, vendor and code go with the number, in acceptance too
+fits-told : (s : List ℕ) (o : Outcome) → meets (isReaders s) o ≡ true → fitsTable (verdictOf o) ≡ true
+unfolding meets fitsTable
+fits-told s Pass h = refl
+fits-told s (Refused v) h =
+    and-true (isAmong readerNumbers (v .number)) (fitsTable v) (and-true (isAmong readerNumbers (v .number) && fitsTable v) (onlyLong s v) h .0) .1
+
+pub command-fits : (s : List ℕ) → fitsTable (commandVerdict s) ≡ true
+unfolding commandVerdict
+command-fits s = fits-told s (commandOutcome s) (command-readers s)
+
+-- 7001 is for commands longer than 16,384 alone
+long-told : (s : List ℕ) (o : Outcome) → meets (isReaders s) o ≡ true → verdictOf o .number ≡ 7001
+    → ltb longestCommand (length s) ≡ true
+unfolding meets
+long-told s Pass h e = absurd (omega arith)
+long-told s (Refused v) h e =
+    let last = and-true (isAmong readerNumbers (v .number) && fitsTable v) (onlyLong s v) h .1 in
+    rw (eq-eqb (v .number) 7001 e) at last
+
+pub command-within : (s : List ℕ) → length s ≤ longestCommand → commandVerdict s .number ≡ 7001 → ⊥
+unfolding commandVerdict
+command-within s h e =
+    let k = ltb-true longestCommand (length s) (long-told s (commandOutcome s) (command-readers s) e) in
+    omega arith
+
+-- ---- the numbers
+
+-- a refusal's number is one of a list
+abbrev numberIn : List ℕ → Outcome → Bool
+numberIn ns = meets (λ v. isAmong ns (v .number))
+
+-- it is one of the reader's
+abbrev isNumbered : Outcome → Bool
+isNumbered = numberIn readerNumbers
+
+readers-numbered : (s : List ℕ) (o : Outcome) → meets (isReaders s) o ≡ true → isNumbered o ≡ true
+unfolding meets
+readers-numbered s Pass h = refl
+readers-numbered s (Refused v) h =
+    and-true (isAmong readerNumbers (v .number)) (fitsTable v) (and-true (isAmong readerNumbers (v .number) && fitsTable v) (onlyLong s v) h .0) .0
+
+command-numbered : (s : List ℕ) → isNumbered (commandOutcome s) ≡ true
+command-numbered s = readers-numbered s (commandOutcome s) (command-readers s)
 
 -- what the reader gives, the writer may give
 writers-too : (o : Outcome) → isNumbered o ≡ true → numberIn writerNumbers o ≡ true
