@@ -18,6 +18,8 @@ pub mod numbering
 pub mod calls
 -- the demands, each in its own words
 pub mod Demands
+-- the order of checks in the answers, and the values that go with a number
+pub mod Order
 -- the name of a state: the canonical form of a command
 pub mod States
 pub mod Examples

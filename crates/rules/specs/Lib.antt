@@ -25,6 +25,7 @@ pub mod Wire
 pub mod Agreement
 pub mod Calls
 pub mod Demands
+pub mod Order
 -- beyond 01: the canonical form of a command, which names a state
 pub mod Canonical
 -- The book and its listing
