@@ -1,25 +1,28 @@
 -- A command in its canonical form: what the answer of a call tells, the form of an accepted command, and that a call for it
 -- answers and leaves what the writer does for the command's own record over its octets.
 use mathlib.Core.Path.{_≡_, refl, sym, ap, _∙_}
-use mathlib.Core.Bool.{Bool, true, false}
-use mathlib.Core.List.{List, []}
+use mathlib.Core.Bool.{Bool, true, false, _||_}
+use mathlib.Core.List.{List, [], _∷_}
 use Prim.Native.Nat.{ℕ, _≤_}
 use native.Mathlib.Omega.{arith}
 use borrow.Author.Tests.{le-ltb, ltb-false}
-use lib.Dec.{ltb}
+use lib.Dec.{ltb, eqb}
 use lib.ListN.{length}
 use lib.Seq.{take-append-seam}
 use Rattle.rules.specs.declared.Verdict.{Verdict}
+use Rattle.rules.specs.declared.Written.{Written}
 use Rattle.rules.specs.declared.Outcome.the-variants.{Pass, Refused}
-use Rattle.rules.specs.Verdict.{refused, refuseIf, verdictOf}
+use Rattle.rules.specs.Verdict.{readerNumbers, writerOnlyNumbers, writerNumbers, isAmong, verdict, refused, refuseIf, verdictOf}
 use Rattle.rules.specs.Command.{commandOutcome, commandVerdict}
 use Rattle.rules.specs.Meaning.{meaningOf}
 use Rattle.rules.specs.Draft.{ownDraft}
 use Rattle.rules.specs.Writer.{draftOctets, draftOutcome, octetsWritten, writing, outputAfter}
 use Rattle.rules.specs.Canonical.{canonicalOctets, canonicalOutcome, canonicalWritten, canonical, canonicalOutput, canonicalFront}
 use Rattle.rules.specs.Octets.{AreOctets}
+use Rattle.rules.proofs.Tests.{or-right}
+use Rattle.rules.proofs.Walk.{by-cases}
 use Rattle.rules.proofs.demands.written.Judged.{by-outcome}
-use Rattle.rules.proofs.demands.numbering.Numbering.{command-number, command-refusal}
+use Rattle.rules.proofs.demands.numbering.Numbering.{command-table, command-number, command-refusal}
 use Rattle.rules.proofs.demands.again.RoundTrip.{draft-octets, draft-outcome, written-accepted, written-means, written-long}
 
 -- ---- what an answer tells
@@ -47,13 +50,37 @@ module _ (c out : List ℕ) where
     unfolding canonicalOutput
     output-of = rw none-written
 
-  -- a call for a refused command: the reader's refusal, and the output as it was
+  -- a call for a refused command: the reader's refusal, and nothing written
   module _ (n : commandVerdict c .number ≡ 0 → ⊥) where
     pub refused-answer : canonical c out ≡ record { verdict = commandVerdict c; length = 0 }
     refused-answer = by-outcome (commandOutcome c) (λ e. absurd (n (command-number c .1 e))) answer-of
 
     pub refused-output : canonicalOutput c out ≡ out
     refused-output = by-outcome (commandOutcome c) (λ e. absurd (n (command-number c .1 e))) output-of
+
+  -- a refused call for an accepted command: the output is too short, and stays as it was
+  module _ (pass : commandOutcome c ≡ Pass) (n : canonical c out .verdict .number ≡ 0 → ⊥) where
+    too-short : ltb (length out) (length (canonicalOctets c)) ≡ true
+    unfolding canonical canonicalOutcome
+    too-short = by-cases (ltb (length out) (length (canonicalOctets c))) (λ h. h) (λ h. absurd (n (rw (pass, h))))
+
+    pub short-answer : canonical c out ≡ record { verdict = verdict 7004 0 0 0; length = 0 }
+    unfolding canonical canonicalWritten canonicalOutcome
+    short-answer = rw (pass, too-short)
+
+    short-output : canonicalOutput c out ≡ out
+    unfolding canonicalOutput canonicalWritten canonicalOutcome
+    short-output = rw (pass, too-short)
+
+  -- every refused call leaves the output as it was, and says so
+  module _ (n : canonical c out .verdict .number ≡ 0 → ⊥) where
+    pub nothing-left : canonicalOutput c out ≡ out
+    nothing-left = by-outcome (commandOutcome c) (λ pass. short-output pass n) output-of
+
+    pub nothing-told : canonical c out .length ≡ 0
+    nothing-told =
+        by-outcome (commandOutcome c) (λ pass. ap (λ (w : Written). w .length) (short-answer pass n))
+        (λ v no. ap (λ (w : Written). w .length) (answer-of v no))
 
   module _ (z : canonical c out .verdict .number ≡ 0) where
     -- a call that is accepted is one for an accepted command
@@ -74,6 +101,33 @@ module _ (c out : List ℕ) where
     pub front-form : canonicalFront c out ≡ canonicalOctets c
     unfolding canonical canonicalOutput
     front-form = take-append-seam (canonicalWritten c (length out)) _ ∙ form-written
+
+-- ---- the number of a call
+
+-- a test before others holds, or the last of them
+put-between : (a b d e : Bool) → (a || e) ≡ true → (a || (b || (d || e))) ≡ true
+put-between true b d e h = refl
+put-between false b d e h = or-right b _ (or-right d e h)
+
+-- the reader's number is one of the writer's table
+reader-in-table : (c : List ℕ) → isAmong (0 ∷ writerNumbers) (commandVerdict c .number) ≡ true
+unfolding writerOnlyNumbers
+reader-in-table c =
+    let n = commandVerdict c .number in
+    put-between (eqb n 0) (eqb n 7004) (eqb n 7006) (isAmong readerNumbers n) (command-table c)
+
+room-in-table : (short : Bool)
+    → isAmong (0 ∷ writerNumbers) (verdictOf (refuseIf short (refused 7004 0 0 0) Pass) .number) ≡ true
+unfolding writerOnlyNumbers readerNumbers
+room-in-table true = refl
+room-in-table false = refl
+
+-- a call's number is 0 or one of that table
+pub call-table : (c out : List ℕ) → isAmong (0 ∷ writerNumbers) (canonical c out .verdict .number) ≡ true
+unfolding canonical canonicalOutcome commandVerdict
+call-table c out =
+    by-outcome (commandOutcome c) (λ pass. rw pass (room-in-table (ltb (length out) (length (canonicalOctets c)))))
+    (λ v no. rw no (rw no at (reader-in-table c)))
 
 -- ---- the form itself
 
