@@ -20,4 +20,6 @@ pub mod calls
 pub mod Demands
 -- the name of a state: the canonical form of a command
 pub mod States
+-- what a search finds
+pub mod Found
 pub mod Examples

@@ -94,7 +94,7 @@ state-refused c out n =
       output = nothing-left c out n;
       none = nothing-told c out n;
       reader = λ r. ap (λ (w : Written). w .verdict) (refused-answer c out r);
-      short = λ a. ap (λ (w : Written). w .verdict) (short-answer c out (command-number c .0 a) n);
+      short = λ a. ap (λ (w : Written). w .verdict) (short-answer c out n (command-number c .0 a));
     }
 
 -- The number of a call is 0 or one of 01's table.

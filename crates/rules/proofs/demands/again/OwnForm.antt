@@ -2,21 +2,22 @@
 -- answers and leaves what the writer does for the command's own record over its octets.
 use mathlib.Core.Path.{_≡_, refl, sym, ap, _∙_}
 use mathlib.Core.Bool.{Bool, true, false, _||_}
-use mathlib.Core.List.{List, [], _∷_}
+use mathlib.Core.List.{List, [], _∷_, _++_}
 use Prim.Native.Nat.{ℕ, _≤_}
 use native.Mathlib.Omega.{arith}
 use borrow.Author.Tests.{le-ltb, ltb-false}
 use lib.Dec.{ltb, eqb}
-use lib.ListN.{length}
+use lib.ListN.{length, drop}
 use lib.Seq.{take-append-seam}
 use Rattle.rules.specs.declared.Verdict.{Verdict}
 use Rattle.rules.specs.declared.Written.{Written}
+use Rattle.rules.specs.declared.Outcome.{Outcome}
 use Rattle.rules.specs.declared.Outcome.the-variants.{Pass, Refused}
-use Rattle.rules.specs.Verdict.{readerNumbers, writerOnlyNumbers, writerNumbers, isAmong, verdict, refused, refuseIf, verdictOf}
+use Rattle.rules.specs.Verdict.{readerNumbers, writerOnlyNumbers, writerNumbers, isAmong, verdict, refused, refuseIf, orElse, verdictOf}
 use Rattle.rules.specs.Command.{commandOutcome, commandVerdict}
 use Rattle.rules.specs.Meaning.{meaningOf}
 use Rattle.rules.specs.Draft.{ownDraft}
-use Rattle.rules.specs.Writer.{draftOctets, draftOutcome, octetsWritten, writing, outputAfter}
+use Rattle.rules.specs.Writer.{draftOctets, draftOutcome, octetsBy, octetsWritten, writing, outputAfter}
 use Rattle.rules.specs.Canonical.{canonicalOctets, canonicalOutcome, canonicalWritten, canonical, canonicalOutput, canonicalFront}
 use Rattle.rules.specs.Octets.{AreOctets}
 use Rattle.rules.proofs.Tests.{or-right}
@@ -33,54 +34,65 @@ room-told true z = absurd (omega arith)
 room-told false z = refl
 
 module _ (c out : List ℕ) where
-  module _ (v : Verdict) (no : commandOutcome c ≡ Refused v) where
+  -- a refused call writes nothing
+  module _ (v : Verdict) (no : canonicalOutcome c (length out) ≡ Refused v) where
     none-written : canonicalWritten c (length out) ≡ []
-    unfolding canonicalWritten canonicalOutcome
-    none-written = rw no
+    unfolding canonicalWritten
+    none-written = ap (λ (o : Outcome). octetsBy o (canonicalOctets c)) no
 
-    answer-of : canonical c out ≡ record { verdict = commandVerdict c; length = 0 }
-    unfolding canonical canonicalOutcome commandVerdict
-    answer-of = rw (none-written, no)
-
-    number-of : canonical c out .verdict .number ≡ v .number
-    unfolding canonical canonicalOutcome
-    number-of = rw no
+    answer-of : canonical c out ≡ record { verdict = v; length = 0 }
+    unfolding canonical
+    answer-of = rw (no, none-written)
 
     output-of : canonicalOutput c out ≡ out
     unfolding canonicalOutput
-    output-of = rw none-written
+    output-of = ap (λ (l : List ℕ). l ++ drop (length l) out) none-written
 
-  -- a call for a refused command: the reader's refusal, and nothing written
+  -- a call for a refused command has the reader's refusal
+  module _ (v : Verdict) (no : commandOutcome c ≡ Refused v) where
+    read-refused : canonicalOutcome c (length out) ≡ Refused v
+    unfolding canonicalOutcome
+    read-refused =
+        ap
+        (λ (o : Outcome). orElse o (refuseIf (ltb (length out) (length (canonicalOctets c))) (refused 7004 0 0 0) Pass))
+        no
+
+    number-of : canonical c out .verdict .number ≡ v .number
+    number-of = ap (λ (w : Written). w .verdict .number) (answer-of v read-refused)
+
+    answer-reads : canonical c out ≡ record { verdict = commandVerdict c; length = 0 }
+    unfolding commandVerdict
+    answer-reads = answer-of v read-refused ∙ rw no
+
   module _ (n : commandVerdict c .number ≡ 0 → ⊥) where
     pub refused-answer : canonical c out ≡ record { verdict = commandVerdict c; length = 0 }
-    refused-answer = by-outcome (commandOutcome c) (λ e. absurd (n (command-number c .1 e))) answer-of
+    refused-answer = by-outcome (commandOutcome c) (λ e. absurd (n (command-number c .1 e))) answer-reads
 
     pub refused-output : canonicalOutput c out ≡ out
-    refused-output = by-outcome (commandOutcome c) (λ e. absurd (n (command-number c .1 e))) output-of
+    refused-output =
+        by-outcome (commandOutcome c) (λ e. absurd (n (command-number c .1 e))) (λ v no. output-of v (read-refused v no))
 
-  -- a refused call for an accepted command: the output is too short, and stays as it was
-  module _ (pass : commandOutcome c ≡ Pass) (n : canonical c out .verdict .number ≡ 0 → ⊥) where
-    too-short : ltb (length out) (length (canonicalOctets c)) ≡ true
-    unfolding canonical canonicalOutcome
-    too-short = by-cases (ltb (length out) (length (canonicalOctets c))) (λ h. h) (λ h. absurd (n (rw (pass, h))))
-
-    pub short-answer : canonical c out ≡ record { verdict = verdict 7004 0 0 0; length = 0 }
-    unfolding canonical canonicalWritten canonicalOutcome
-    short-answer = rw (pass, too-short)
-
-    short-output : canonicalOutput c out ≡ out
-    unfolding canonicalOutput canonicalWritten canonicalOutcome
-    short-output = rw (pass, too-short)
-
-  -- every refused call leaves the output as it was, and says so
+  -- whatever the refusal is, the output is as it was, and the answer says so
   module _ (n : canonical c out .verdict .number ≡ 0 → ⊥) where
+    number-zero : canonicalOutcome c (length out) ≡ Pass → canonical c out .verdict .number ≡ 0
+    unfolding canonical
+    number-zero e = ap (λ (o : Outcome). verdictOf o .number) e
+
     pub nothing-left : canonicalOutput c out ≡ out
-    nothing-left = by-outcome (commandOutcome c) (λ pass. short-output pass n) output-of
+    nothing-left = by-outcome (canonicalOutcome c (length out)) (λ e. absurd (n (number-zero e))) output-of
 
     pub nothing-told : canonical c out .length ≡ 0
     nothing-told =
-        by-outcome (commandOutcome c) (λ pass. ap (λ (w : Written). w .length) (short-answer pass n))
+        by-outcome (canonicalOutcome c (length out)) (λ e. absurd (n (number-zero e)))
         (λ v no. ap (λ (w : Written). w .length) (answer-of v no))
+
+    -- a refused call for an accepted command: the output is too short
+    pub short-answer : commandOutcome c ≡ Pass → canonical c out ≡ record { verdict = verdict 7004 0 0 0; length = 0 }
+    unfolding canonicalOutcome
+    short-answer pass =
+        by-cases (ltb (length out) (length (canonicalOctets c)))
+        (λ h. answer-of (verdict 7004 0 0 0) (rw (pass, h)))
+        (λ h. absurd (n (number-zero (rw (pass, h)))))
 
   module _ (z : canonical c out .verdict .number ≡ 0) where
     -- a call that is accepted is one for an accepted command
