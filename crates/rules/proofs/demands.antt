@@ -22,4 +22,6 @@ pub mod Demands
 pub mod Order
 -- the name of a state: the canonical form of a command
 pub mod States
+-- what a search finds
+pub mod Found
 pub mod Examples

@@ -4,6 +4,7 @@
 use mathlib.Core.Path.{_≡_, refl}
 use Prim.Native.Nat.{ℕ}
 use mathlib.Core.List.{List, [], _∷_, _++_, map}
+use lib.ListN.{take, replicate}
 use Rattle.rules.specs.declared.Verdict.{Verdict}
 use Rattle.rules.specs.Octets.{numberAt, padded, octets}
 use Rattle.rules.specs.Verdict.{verdict}
@@ -158,10 +159,70 @@ bookListing =
     49 ∷ 32 ∷ 53 ∷ 32 ∷ 53 ∷ 48 ∷ 48 ∷ 53 ∷ 32 ∷ 50 ∷ 48 ∷ 32 ∷ 48 ∷ 32 ∷ 50 ∷ 54 ∷ 51 ∷ 10 ∷
     101 ∷ 110 ∷ 100 ∷ 32 ∷ 49 ∷ 32 ∷ 48 ∷ 10 ∷ []
 
+-- the head of a book: the letters NTB and the version 1
+unfoldable pub headOfBook : List ℕ
+headOfBook = 0x4E ∷ 0x54 ∷ 0x42 ∷ 0x00 ∷ 0x01 ∷ []
+
+-- a book and the listing that it has
+pub record BookCase : Type 0 where
+  pub octets : List ℕ
+  pub text : List ℕ
+
+unfoldable pub bookCase : List ℕ → List ℕ → BookCase
+bookCase octets text = record { octets = octets; text = text }
+
+-- the lines that their listings share: "NTB 1"; then "1 5 0 0 0 0", of S; then "2 165 cut"; and "not a book"
+unfoldable pub printedHead : List ℕ
+printedHead = 78 ∷ 84 ∷ 66 ∷ 32 ∷ 49 ∷ 10 ∷ []
+
+unfoldable pub printedS : List ℕ
+printedS = printedHead ++ (49 ∷ 32 ∷ 53 ∷ 32 ∷ 48 ∷ 32 ∷ 48 ∷ 32 ∷ 48 ∷ 32 ∷ 48 ∷ 10 ∷ [])
+
+unfoldable pub printedCut : List ℕ
+printedCut = printedS ++ (50 ∷ 32 ∷ 49 ∷ 54 ∷ 53 ∷ 32 ∷ 99 ∷ 117 ∷ 116 ∷ 10 ∷ [])
+
+unfoldable pub printedNoBook : List ℕ
+printedNoBook = 110 ∷ 111 ∷ 116 ∷ 32 ∷ 97 ∷ 32 ∷ 98 ∷ 111 ∷ 111 ∷ 107 ∷ 10 ∷ []
+
+-- further books
+unfoldable pub furtherBooks : List BookCase
+furtherBooks =
+    -- S and then H: two commands, one accepted: "NTB 1", "1 5 0 0 0 0", "2 165 5005 20 0 263", "end 2 1"
+    bookCase (headOfBook ++ s ++ h) (printedS ++ (
+    50 ∷ 32 ∷ 49 ∷ 54 ∷ 53 ∷ 32 ∷ 53 ∷ 48 ∷ 48 ∷ 53 ∷ 32 ∷ 50 ∷ 48 ∷ 32 ∷ 48 ∷ 32 ∷ 50 ∷ 54 ∷ 51 ∷ 10 ∷
+    101 ∷ 110 ∷ 100 ∷ 32 ∷ 50 ∷ 32 ∷ 49 ∷ 10 ∷ []))
+    -- S with three octets behind it: a cut, and no `end`: "NTB 1", "1 5 0 0 0 0", "2 165 cut"
+    ∷ bookCase (headOfBook ++ s ++ (1 ∷ 0 ∷ 0 ∷ [])) printedCut
+    -- S and then H without its last octet: a length past the end: "NTB 1", "1 5 0 0 0 0", "2 165 cut"
+    ∷ bookCase (headOfBook ++ s ++ take 19 h) printedCut
+    -- a length field of 16 with 20 octets left, which no command has: "NTB 1", "1 5 cut"
+    ∷ bookCase (headOfBook ++ header 1 16 0xC0 applicationNt) (printedHead ++ (
+    49 ∷ 32 ∷ 53 ∷ 32 ∷ 99 ∷ 117 ∷ 116 ∷ 10 ∷ []))
+    -- a command of 16,388 octets: refused, and no cut: "NTB 1", "1 5 7001 1 0 0", "end 1 0"
+    ∷ bookCase (headOfBook ++ request 16388 ++ replicate 16368 0) (printedHead ++ (
+    49 ∷ 32 ∷ 53 ∷ 32 ∷ 55 ∷ 48 ∷ 48 ∷ 49 ∷ 32 ∷ 49 ∷ 32 ∷ 48 ∷ 32 ∷ 48 ∷ 10 ∷
+    101 ∷ 110 ∷ 100 ∷ 32 ∷ 49 ∷ 32 ∷ 48 ∷ 10 ∷ []))
+    -- the head alone: "NTB 1", "end 0 0"
+    ∷ bookCase headOfBook (printedHead ++ (
+    101 ∷ 110 ∷ 100 ∷ 32 ∷ 48 ∷ 32 ∷ 48 ∷ 10 ∷ []))
+    -- a head of version 2, and H: "not a book"
+    ∷ bookCase (0x4E ∷ 0x54 ∷ 0x42 ∷ 0x00 ∷ 0x02 ∷ h) printedNoBook
+    -- a head of four octets: "not a book"
+    ∷ bookCase (0x4E ∷ 0x54 ∷ 0x42 ∷ 0x00 ∷ []) printedNoBook
+    ∷ []
+
+-- the listings that books have, and those that the definitions give
+unfoldable pub texts : List BookCase → List (List ℕ)
+texts bs = map (λ b. b .text) bs
+
+unfoldable pub listings : List BookCase → List (List ℕ)
+listings bs = map (λ b. listing (b .octets)) bs
+
 -- all of it, computed
 computed : (verdicts cases ≡ answers cases) × (verdicts further ≡ answers further) × (listing book ≡ bookListing)
-unfolding verdicts answers cases case header h avp avpOf3GPP sBegins vendorId sGoesOn sEnds sFront s further firstRequestTo answerBegins book bookListing octets numberAt padded lengthOutcome applicationOutcome flagsOutcome headerOutcome avpAt rowsOf admitsOthers dictionary find framing wrongFlags unsupported wrongWidth wrongValue tooDeep contents checked walkAvp walkList admissionFrom memberOutcome missingFrom membersOutcome membersAt groupsOutcome rowsOutcome firstFrom volume firstRequest laterRequest requestOutcome resultOutcome policiesOutcome policyOutcome eachPolicy answerOutcome windowOutcome eachWindow exchangeOutcome walkOf listsOutcome commandOutcome commandVerdict digits isCut linesFrom isBook listing
-computed = (refl, refl, refl)
+    × (listings furtherBooks ≡ texts furtherBooks)
+unfolding headOfBook printedHead printedS printedCut printedNoBook bookCase furtherBooks texts listings verdicts answers cases case header h avp avpOf3GPP sBegins vendorId sGoesOn sEnds sFront s further firstRequestTo answerBegins book bookListing octets numberAt padded lengthOutcome applicationOutcome flagsOutcome headerOutcome avpAt rowsOf admitsOthers dictionary find framing wrongFlags unsupported wrongWidth wrongValue tooDeep contents checked walkAvp walkList admissionFrom memberOutcome missingFrom membersOutcome membersAt groupsOutcome rowsOutcome firstFrom volume firstRequest laterRequest requestOutcome resultOutcome policiesOutcome policyOutcome eachPolicy answerOutcome windowOutcome eachWindow exchangeOutcome walkOf listsOutcome commandOutcome commandVerdict digits isCut linesFrom isBook listing
+computed = (refl, refl, refl, refl)
 
 -- each marked case has its answer
 pub edges : verdicts cases ≡ answers cases
@@ -174,3 +235,7 @@ further-edges = computed .1
 -- and the book its listing
 pub worked-book : listing book ≡ bookListing
 worked-book = computed .2
+
+-- and each further book
+pub further-books : listings furtherBooks ≡ texts furtherBooks
+further-books = computed .3

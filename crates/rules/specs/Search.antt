@@ -1,8 +1,9 @@
 -- 01, The record: positions among the AVPs of a walk, and the search. The exchange rules use it too.
-use Prim.Native.Nat.{ℕ, _+_}
+use mathlib.Core.Path.{_≡_}
+use Prim.Native.Nat.{ℕ, _+_, _≤_, _<_}
 use mathlib.Core.List.{List, [], _∷_}
-use mathlib.Core.Bool.{Bool, cond, _&&_}
-use lib.ListN.{getD, drop}
+use mathlib.Core.Bool.{Bool, true, false, cond, _&&_}
+use lib.ListN.{length, getD, drop}
 use lib.Dec.{ltb, eqb}
 use Rattle.rules.specs.declared.Avp.{Avp}
 use Rattle.rules.specs.declared.Found.{Found}
@@ -41,3 +42,31 @@ member xs i depth vendor code = firstFrom (i + 1) depth depth (drop (i + 1) xs) 
 abbrev pub positionOf : Found → ℕ
 positionOf (At i) = i
 positionOf Nothing = mostAvps
+
+-- ---- what is claimed (proofs/demands/Found)
+
+-- no AVP up to a position stands above the depth `floor`
+abbrev pub Inside : ℕ → List Avp → ℕ → Type 0
+Inside floor xs k = (j : ℕ) → j ≤ k → floor ≤ avpIn xs j .depth
+
+-- the AVP at a position is the first at a depth with a vendor and code, before any AVP above the depth `floor`
+pub record IsFirst (floor depth : ℕ) (xs : List Avp) (vendor code k : ℕ) : Type 0 where
+  pub within : k < length xs
+  pub here : isAt (avpIn xs k) depth vendor code ≡ true
+  pub before : (j : ℕ) → j < k → isAt (avpIn xs j) depth vendor code ≡ false
+  pub inside : Inside floor xs k
+
+-- there is none such
+abbrev pub IsNone : ℕ → ℕ → List Avp → ℕ → ℕ → Type 0
+IsNone floor depth xs vendor code =
+    (k : ℕ) → k < length xs → Inside floor xs k → isAt (avpIn xs k) depth vendor code ≡ false
+
+-- 01: the first AVP at depth 1 with a vendor and code
+pub record FirstAvp (xs : List Avp) (vendor code i : ℕ) : Type 0 where
+  pub within : i < length xs
+  pub here : isAt (avpIn xs i) 1 vendor code ≡ true
+  pub before : (j : ℕ) → j < i → isAt (avpIn xs j) 1 vendor code ≡ false
+
+-- 01: there is none
+abbrev pub NoAvp : List Avp → ℕ → ℕ → Type 0
+NoAvp xs vendor code = (i : ℕ) → i < length xs → isAt (avpIn xs i) 1 vendor code ≡ false

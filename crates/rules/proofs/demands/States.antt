@@ -6,26 +6,20 @@ use mathlib.Core.Logic.{_↔_}
 use mathlib.Core.List.{List}
 use Prim.Native.Nat.{ℕ, _≤_}
 use lib.ListN.{length}
+use Rattle.rules.specs.declared.Written.{Written}
 use Rattle.rules.specs.Meaning.{meaningOf}
 use Rattle.rules.specs.Agreement.{Agree}
 use Rattle.rules.specs.Wire.{commandOctets}
-use Rattle.rules.specs.Canonical.{canonicalOctets, canonical, canonicalFront}
+use Rattle.rules.specs.Canonical.{canonicalOctets, canonicalFront, HasForm, AcceptedCanonical, OwnWritten, RefusedCall, InTable}
 use Rattle.rules.specs.Octets.{AreOctets}
 use Rattle.rules.proofs.demands.numbering.Numbering.{command-number}
-use Rattle.rules.proofs.demands.again.OwnForm.{form-accepted, form-means, form-long, accepted-command, accepted-room, room-accepted, front-form}
+use Rattle.rules.proofs.demands.again.OwnForm.{refused-answer, short-answer, nothing-left, nothing-told, call-table, form-accepted, form-means, form-long, answer-is, output-is, accepted-command, accepted-room, room-accepted, front-form}
 use Rattle.rules.specs.Demands.{AcceptedCommand}
 use Rattle.rules.proofs.demands.Demands.{demand-3-commands}
 
 -- ---- the form
 
--- the canonical form of an accepted command is accepted, has the command's meaning and length, and is its own canonical
--- form
-pub record HasForm (c : List ℕ) : Type 0 where
-  pub accepted : AcceptedCommand (canonicalOctets c)
-  pub means : meaningOf (canonicalOctets c) ≡ meaningOf c
-  pub long : length (canonicalOctets c) ≡ length c
-  pub again : canonicalOctets (canonicalOctets c) ≡ canonicalOctets c
-
+-- The canonical form of an accepted command is accepted, has the command's meaning and length, and is its own form.
 -- Carried by again-accepted, again-means and again-long (again/Canonical).
 -- Ruled out: a name that is no command, so that it cannot be replayed against a node under test; a form that changes when
 -- it is taken once more, so that a state read back from its name is a new one.
@@ -68,10 +62,6 @@ state-agree a b oa ob ka kb =
 
 -- ---- the calls
 
--- accepted (01, What comes back: the number 0)
-abbrev pub AcceptedCanonical : List ℕ → List ℕ → Type 0
-AcceptedCanonical c out = canonical c out .verdict .number ≡ 0
-
 -- A call is accepted exactly when its command is and the output is no shorter than the command.
 -- Carried by draft-outcome (again/RoundTrip: of the writer's tests only the room is left) and form-long (again/OwnForm).
 -- Ruled out: a call that comes back with 7006 or 7001 for a command that the reader accepts; one that wants more room than
@@ -84,6 +74,34 @@ state-accepted c out oct = (
       (command-number c .1 pass, accepted-room c oct pass out z),
   λ k. room-accepted c oct (command-number c .0 (k .0)) out (k .1),
 )
+
+-- A call for an accepted command answers and leaves what the writer does for the command's own record over its octets.
+-- Carried by answer-is and output-is (again/OwnForm).
+-- Ruled out: a form of its own with padding FF or a reserved bit set, which the writer never writes (01: padding and
+-- reserved bits are 0); a call that tells another length than it wrote.
+pub state-own : (c out : List ℕ) → AreOctets c → AcceptedCommand c → OwnWritten c out
+state-own c out oct a =
+    let pass = command-number c .0 a in
+    record { answer = sym (answer-is c oct pass out); output = sym (output-is c oct pass out) }
+
+-- A refused call leaves the output as it was and says the length 0; its verdict is the reader's where the command is
+-- refused, and else 7004.
+-- Carried by refused-answer and short-answer (again/OwnForm).
+-- Ruled out: a call that writes as far as the output reaches; one that hides the reader's refusal behind 7004.
+pub state-refused : (c out : List ℕ) → (AcceptedCanonical c out → ⊥) → RefusedCall c out
+state-refused c out n =
+    record {
+      output = nothing-left c out n;
+      none = nothing-told c out n;
+      reader = λ r. ap (λ (w : Written). w .verdict) (refused-answer c out r);
+      short = λ a. ap (λ (w : Written). w .verdict) (short-answer c out n (command-number c .0 a));
+    }
+
+-- The number of a call is 0 or one of 01's table.
+-- Carried by demand-1-reader-number.
+-- Ruled out: a call with a number of its own for an output that is too short.
+pub state-number : (c out : List ℕ) → InTable c out
+state-number = call-table
 
 -- What an accepted call wrote is the canonical form of its command, whatever the output held before.
 pub state-written : (c out : List ℕ) → AcceptedCanonical c out → canonicalFront c out ≡ canonicalOctets c
