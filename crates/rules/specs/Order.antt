@@ -15,8 +15,8 @@ use Rattle.rules.specs.Verdict.{writerOnlyNumbers, isAmong, verdict}
 use Rattle.rules.specs.Header.{headerOutcome, commandFlags, isRequest, longestCommand}
 use Rattle.rules.specs.Dictionary.{dictionary}
 use Rattle.rules.specs.Walk.{whole, stopped}
-use Rattle.rules.specs.RowChecks.{rowsOutcome}
-use Rattle.rules.specs.Exchange.{exchangeOutcome}
+use Rattle.rules.specs.RowChecks.{listOutcome, groupsOutcome}
+use Rattle.rules.specs.Exchange.{byCommand, eachWindow}
 use Rattle.rules.specs.Command.{commandGrammar, walkOf, commandVerdict}
 use Rattle.rules.specs.Draft.{Draft, isWellFormed}
 use Rattle.rules.specs.Writer.{draftOctets, writing}
@@ -43,28 +43,38 @@ fitsTable v =
     && placed 7005 (4 ∷ []) v
     && unnamed 7002 v
 
--- the rows, and the exchange rules with the windows, over the AVPs of a command's walk
-abbrev pub rowsOver : List ℕ → List Avp → Outcome
-rowsOver c xs = rowsOutcome dictionary (commandGrammar (commandFlags c)) (length c) xs
+-- the checks over the AVPs of a command's walk, in 01's order: the rows of the command's own list, those of each group, the
+-- exchange rules of the request or the answer, the windows
+abbrev pub ownRows : List ℕ → List Avp → Outcome
+ownRows c xs = listOutcome (commandGrammar (commandFlags c)) 1 (length c) xs
 
-abbrev pub exchangeOver : List ℕ → List Avp → Outcome
-exchangeOver c xs = exchangeOutcome (isRequest (commandFlags c)) xs c (length c)
+abbrev pub groupRows : List ℕ → List Avp → Outcome
+groupRows c xs = groupsOutcome dictionary xs
+
+abbrev pub exchange : List ℕ → List Avp → Outcome
+exchange c xs = byCommand (isRequest (commandFlags c)) xs c (length c)
+
+abbrev pub windows : List ℕ → List Avp → Outcome
+windows c xs = eachWindow xs c 0 xs
+
+-- over the AVPs of a walk without fault, the first of them that refuses is the answer
+pub record FirstListFault (c : List ℕ) (xs : List Avp) : Type 0 where
+  pub own : (v : Verdict) → ownRows c xs ≡ Refused v → commandVerdict c ≡ v
+  pub groups : (v : Verdict) → ownRows c xs ≡ Pass → groupRows c xs ≡ Refused v → commandVerdict c ≡ v
+  pub rules : (v : Verdict) → ownRows c xs ≡ Pass → groupRows c xs ≡ Pass → exchange c xs ≡ Refused v
+      → commandVerdict c ≡ v
+  pub times : (v : Verdict) → ownRows c xs ≡ Pass → groupRows c xs ≡ Pass → exchange c xs ≡ Pass
+      → windows c xs ≡ Refused v → commandVerdict c ≡ v
+  -- none applies
+  pub none : ownRows c xs ≡ Pass → groupRows c xs ≡ Pass → exchange c xs ≡ Pass → windows c xs ≡ Pass
+      → commandVerdict c ≡ verdict 0 0 0 0
 
 -- 01, Order of checks: the first that applies is the answer
 pub record FirstFault (c : List ℕ) : Type 0 where
-  -- Header
   pub header : (v : Verdict) → headerOutcome c ≡ Refused v → commandVerdict c ≡ v
-  -- Walk: its fault is the answer, whatever the AVPs before it are
+  -- a fault of the walk, whatever the AVPs before it are
   pub walk : (xs : List Avp) (v : Verdict) → headerOutcome c ≡ Pass → walkOf c ≡ stopped xs v → commandVerdict c ≡ v
-  -- Rows, over the AVPs of the whole walk
-  pub rows : (xs : List Avp) (v : Verdict) → headerOutcome c ≡ Pass → walkOf c ≡ whole xs → rowsOver c xs ≡ Refused v
-      → commandVerdict c ≡ v
-  -- Exchange rules
-  pub exchange : (xs : List Avp) (v : Verdict) → headerOutcome c ≡ Pass → walkOf c ≡ whole xs → rowsOver c xs ≡ Pass
-      → exchangeOver c xs ≡ Refused v → commandVerdict c ≡ v
-  -- none applies
-  pub none : (xs : List Avp) → headerOutcome c ≡ Pass → walkOf c ≡ whole xs → rowsOver c xs ≡ Pass
-      → exchangeOver c xs ≡ Pass → commandVerdict c ≡ verdict 0 0 0 0
+  pub lists : (xs : List Avp) → headerOutcome c ≡ Pass → walkOf c ≡ whole xs → FirstListFault c xs
 
 -- the answer of a call that the writer refuses itself: place, vendor and code are 0, and the length
 abbrev pub ownRefusal : ℕ → Written

@@ -10,16 +10,17 @@ use lib.Dec.{ltb}
 use lib.ListN.{length}
 use Rattle.rules.specs.declared.Avp.{Avp}
 use Rattle.rules.specs.declared.Verdict.{Verdict}
-use Rattle.rules.specs.declared.Outcome.{Outcome}
 use Rattle.rules.specs.declared.Outcome.the-variants.{Pass, Refused}
-use Rattle.rules.specs.Verdict.{writerOnlyNumbers, isAmong, refused, verdict, verdictOf}
+use Rattle.rules.specs.Verdict.{writerOnlyNumbers, isAmong, refused, orElse, verdict, verdictOf}
 use Rattle.rules.specs.Header.{headerOutcome, longestCommand}
 use Rattle.rules.specs.Walk.{Walked, whole, stopped}
+use Rattle.rules.specs.RowChecks.{rowsOutcome}
+use Rattle.rules.specs.Exchange.{exchangeOutcome}
 use Rattle.rules.specs.Command.{walkOf, listsOutcome, walkedOutcome, commandOutcome, commandVerdict}
 use Rattle.rules.specs.Draft.{Draft, isWellFormed}
 use Rattle.rules.specs.Writer.{draftOctets, ownOutcome, draftOutcome, octetsWritten, writing}
 use Rattle.rules.specs.Demands.{AcceptedCommand}
-use Rattle.rules.specs.Order.{fitsTable, rowsOver, exchangeOver, FirstFault, ownRefusal, WriterOrder, ownNumbers, WriterValues}
+use Rattle.rules.specs.Order.{fitsTable, ownRows, groupRows, exchange, windows, FirstListFault, FirstFault, ownRefusal, WriterOrder, ownNumbers, WriterValues}
 use Rattle.rules.proofs.Walk.{by-cases}
 use Rattle.rules.proofs.demands.items.Lists.{not-both}
 use Rattle.rules.proofs.demands.numbering.Numbering.{command-fits, command-within, command-not-writers}
@@ -38,17 +39,23 @@ module _ (c : List ℕ) where
     by-walk w e = rw (headed, e)
 
     module _ (xs : List Avp) (walked : walkOf c ≡ whole xs) where
-      by-rows : (v : Verdict) → rowsOver c xs ≡ Refused v → commandVerdict c ≡ v
-      unfolding listsOutcome
-      by-rows v r = by-walk (whole xs) walked ∙ rw r
+      by-lists : commandVerdict c ≡ verdictOf (orElse (orElse (ownRows c xs) (groupRows c xs)) (orElse (exchange c xs) (windows c xs)))
+      unfolding listsOutcome rowsOutcome exchangeOutcome
+      by-lists = by-walk (whole xs) walked
 
-      by-exchange : (o : Outcome) → rowsOver c xs ≡ Pass → exchangeOver c xs ≡ o → commandVerdict c ≡ verdictOf o
-      unfolding listsOutcome
-      by-exchange o r e = by-walk (whole xs) walked ∙ rw (r, e)
+      list-faults : FirstListFault c xs
+      list-faults =
+          record {
+            own = λ v a. by-lists ∙ rw a;
+            groups = λ v a b. by-lists ∙ rw (a, b);
+            rules = λ v a b e. by-lists ∙ rw (a, b, e);
+            times = λ v a b e w. by-lists ∙ rw (a, b, e, w);
+            none = λ a b e w. by-lists ∙ rw (a, b, e, w);
+          }
 
--- "the first that applies is the answer" (01, Order of checks): header, walk, rows, exchange rules; where none applies, the
--- command is accepted.
--- Carried by the definitions of commandOutcome and its parts (rules/specs/Command) alone.
+-- "the first that applies is the answer" (01, Order of checks): header, walk, the rows of the command's list, those of each
+-- group, exchange rules, windows; where none applies, the command is accepted.
+-- Carried by the definition of commandOutcome (rules/specs/Command) alone.
 -- Ruled out: a reader that reports row faults before a later 5014; one that reports faults in the order in which it meets
 -- them, so that a group's row fault comes before a later fault of the command's own list.
 pub demand-2-first-fault : (c : List ℕ) → FirstFault c
@@ -56,9 +63,7 @@ demand-2-first-fault c =
     record {
       header = by-header c;
       walk = λ xs v h w. by-walk c h (stopped xs v) w;
-      rows = λ xs v h w r. by-rows c h xs w v r;
-      exchange = λ xs v h w r e. by-exchange c h xs w (Refused v) r e;
-      none = λ xs h w r e. by-exchange c h xs w Pass r e;
+      lists = λ xs h w. list-faults c h xs w;
     }
 
 -- 01, What comes back: "0: accepted; place, vendor and code 0".

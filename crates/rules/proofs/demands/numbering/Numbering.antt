@@ -1,5 +1,6 @@
 -- The number that comes back is 0 or one of the table: the reader's, and for a draft those of the writer too. The table
--- lacks 0 but for acceptance, so the number is 0 exactly when the command, or the draft, is accepted.
+-- lacks 0 but for acceptance, so the number is 0 exactly when the command, or the draft, is accepted. The reader's place,
+-- vendor and code go with the number.
 use mathlib.Core.Path.{_≡_, refl, sym, ap, _∙_}
 use mathlib.Core.Bool.{Bool, true, false, not, _&&_, _||_}
 use mathlib.Core.List.{List, _∷_}

@@ -1,7 +1,7 @@
 -- What a test of verdicts tells of the reader's refusals: it holds of all, if it holds of each that 01 lists, since each way
 -- in which 01 joins its checks keeps it. Here the header's checks and the walk; rows and exchange rules are in ListRefusals,
 -- whole commands and drafts in Numbering.
-use mathlib.Core.Path.{_≡_, refl, sym, _∙_}
+use mathlib.Core.Path.{_≡_, refl}
 use mathlib.Core.Bool.{Bool, true, false, cond, not, _||_}
 use mathlib.Core.List.{List, [], _∷_}
 use Prim.Native.Nat.{ℕ, zero, suc, _%_, _<_}
@@ -61,10 +61,6 @@ module _ (t : Verdict → Bool) where
   pub pass-meets : meets t Pass ≡ true
   unfolding meets
   pass-meets = refl
-
-  pub one : (v : Verdict) → t v ≡ true → meets t (Refused v) ≡ true
-  unfolding meets
-  one v h = h
 
   pub either : (b : Bool) (o p : Outcome) → meets t (cond b o p) ≡ cond b (meets t o) (meets t p)
   either true o p = refl
