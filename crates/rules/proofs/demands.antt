@@ -22,4 +22,6 @@ pub mod Demands
 pub mod States
 -- what a search finds
 pub mod Found
+-- what a listing tells of a book
+pub mod Listings
 pub mod Examples
