@@ -129,6 +129,20 @@ endToEnd (c ∷ cs) = c ++ endToEnd cs
 abbrev pub bookOf : List (List ℕ) → List ℕ → List ℕ
 bookOf cs left = 0x4e ∷ 0x54 ∷ 0x42 ∷ 0x00 ∷ 0x01 ∷ endToEnd cs ++ left
 
+-- octets behind a head as commands and what is left: nothing, or octets that are no command
+pub record Parted (xs : List ℕ) : Type 0 where
+  pub commands : List (List ℕ)
+  pub left : List ℕ
+  pub entered : AllEntered commands
+  pub last : (left ≡ []) ⊎ CutOff left
+  pub all : xs ≡ endToEnd commands ++ left
+
+-- no book: a head that is short or wrong, or more than 65,536 octets
+abbrev pub NoBook : List ℕ → Type 0
+NoBook s =
+    (length s < bookHead)
+    ⊎ ((longestBook < length s) ⊎ (take bookHead s ≡ 0x4e ∷ 0x54 ∷ 0x42 ∷ 0x00 ∷ 0x01 ∷ [] → ⊥))
+
 -- a line for each command, with its ordinal, offset and verdict
 abbrev pub commandLines : ℕ → ℕ → List (List ℕ) → List ℕ
 commandLines ordinal offset [] = []
