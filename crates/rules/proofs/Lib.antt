@@ -13,6 +13,7 @@ pub mod Header
 pub mod Commands
 pub mod Steps
 pub mod Searches
+pub mod BookLines
 -- the user's demands as theorems over the definitions
 pub mod demands
 -- the octets of a well-formed draft, for the writer

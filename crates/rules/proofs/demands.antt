@@ -24,4 +24,6 @@ pub mod Order
 pub mod States
 -- what a search finds
 pub mod Found
+-- what a listing tells of a book
+pub mod Listings
 pub mod Examples

@@ -1,5 +1,7 @@
 -- 01, The book and its listing: the listing is the octets that `verdicts` prints.
-use Prim.Native.Nat.{ℕ, zero, suc, _+_, _-_, _/_, _%_}
+use mathlib.Core.Path.{_≡_}
+use mathlib.Core.Logic.{_⊎_}
+use Prim.Native.Nat.{ℕ, zero, suc, _+_, _-_, _/_, _%_, _≤_, _<_}
 use mathlib.Core.List.{List, [], _∷_, _++_}
 use mathlib.Core.Bool.{Bool, cond, not, _&&_, _||_}
 use lib.ListN.{length, take, drop}
@@ -101,3 +103,53 @@ isBook s =
 -- the whole listing. One without `end` is no pass
 unfoldable pub listing : List ℕ → List ℕ
 listing s = cond (isBook s) (headLine ++ linesFrom (length s) s bookHead 0 0) notABook
+
+-- ---- what is claimed of a listing (proofs/demands/Listings)
+
+-- a command as a book holds it: at least 20 octets, and as long as its length field says
+pub record Entered (c : List ℕ) : Type 0 where
+  pub enough : headerSize ≤ length c
+  pub field-is : lengthOf c 0 ≡ length c
+
+abbrev pub AllEntered : List (List ℕ) → Type 0
+AllEntered [] = Unit {0}
+AllEntered (c ∷ cs) = Entered c × AllEntered cs
+
+-- octets that are no command: one to three, a length under 20, or one past the end
+pub record CutOff (left : List ℕ) : Type 0 where
+  pub some : 1 ≤ length left
+  pub no-command : (length left < 4) ⊎ ((lengthOf left 0 < headerSize) ⊎ (length left < lengthOf left 0))
+
+-- commands end to end
+abbrev pub endToEnd : List (List ℕ) → List ℕ
+endToEnd [] = []
+endToEnd (c ∷ cs) = c ++ endToEnd cs
+
+-- the letters NTB, the version 1, commands, and what is left behind them
+abbrev pub bookOf : List (List ℕ) → List ℕ → List ℕ
+bookOf cs left = 0x4e ∷ 0x54 ∷ 0x42 ∷ 0x00 ∷ 0x01 ∷ endToEnd cs ++ left
+
+-- octets behind a head as commands and what is left: nothing, or octets that are no command
+pub record Parted (xs : List ℕ) : Type 0 where
+  pub commands : List (List ℕ)
+  pub left : List ℕ
+  pub entered : AllEntered commands
+  pub last : (left ≡ []) ⊎ CutOff left
+  pub all : xs ≡ endToEnd commands ++ left
+
+-- no book: a head that is short or wrong, or more than 65,536 octets
+abbrev pub NoBook : List ℕ → Type 0
+NoBook s =
+    (length s < bookHead)
+    ⊎ ((longestBook < length s) ⊎ (take bookHead s ≡ 0x4e ∷ 0x54 ∷ 0x42 ∷ 0x00 ∷ 0x01 ∷ [] → ⊥))
+
+-- a line for each command, with its ordinal, offset and verdict
+abbrev pub commandLines : ℕ → ℕ → List (List ℕ) → List ℕ
+commandLines ordinal offset [] = []
+commandLines ordinal offset (c ∷ cs) =
+    commandLine ordinal offset (commandVerdict c) ++ commandLines (ordinal + 1) (offset + length c) cs
+
+-- how many of them are accepted
+abbrev pub acceptedOf : List (List ℕ) → ℕ
+acceptedOf [] = 0
+acceptedOf (c ∷ cs) = cond (eqb (commandVerdict c .number) 0) 1 0 + acceptedOf cs

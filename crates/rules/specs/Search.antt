@@ -61,12 +61,18 @@ abbrev pub IsNone : ℕ → ℕ → List Avp → ℕ → ℕ → Type 0
 IsNone floor depth xs vendor code =
     (k : ℕ) → k < length xs → Inside floor xs k → isAt (avpIn xs k) depth vendor code ≡ false
 
+-- an AVP has this depth, vendor and code
+pub record Stands (a : Avp) (depth vendor code : ℕ) : Type 0 where
+  pub depth-is : a .depth ≡ depth
+  pub vendor-is : a .vendor ≡ vendor
+  pub code-is : a .code ≡ code
+
 -- 01: the first AVP at depth 1 with a vendor and code
 pub record FirstAvp (xs : List Avp) (vendor code i : ℕ) : Type 0 where
   pub within : i < length xs
-  pub here : isAt (avpIn xs i) 1 vendor code ≡ true
-  pub before : (j : ℕ) → j < i → isAt (avpIn xs j) 1 vendor code ≡ false
+  pub here : Stands (avpIn xs i) 1 vendor code
+  pub before : (j : ℕ) → j < i → Stands (avpIn xs j) 1 vendor code → ⊥
 
 -- 01: there is none
 abbrev pub NoAvp : List Avp → ℕ → ℕ → Type 0
-NoAvp xs vendor code = (i : ℕ) → i < length xs → isAt (avpIn xs i) 1 vendor code ≡ false
+NoAvp xs vendor code = (i : ℕ) → i < length xs → Stands (avpIn xs i) 1 vendor code → ⊥

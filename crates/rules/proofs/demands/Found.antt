@@ -6,13 +6,15 @@ use mathlib.Core.Logic.{_↔_}
 use mathlib.Core.List.{List, [], _∷_}
 use Prim.Native.Nat.{ℕ, zero, suc, _+_, _≤_, _<_}
 use native.Mathlib.Omega.{arith}
-use borrow.Author.Tests.{ltb-true, ltb-false}
-use lib.Dec.{ltb}
+use borrow.Author.Tests.{ltb-true, ltb-false, eqb-true, eq-eqb}
+use lib.Dec.{ltb, eqb}
 use lib.ListN.{length}
 use Rattle.rules.specs.declared.Avp.{Avp}
 use Rattle.rules.specs.declared.Found.{Found}
 use Rattle.rules.specs.declared.Found.the-variants.{At, Nothing}
-use Rattle.rules.specs.Search.{avpIn, isAt, firstFrom, search, positionOf, Inside, IsFirst, IsNone, FirstAvp, NoAvp}
+use Rattle.rules.specs.Search.{avpIn, isAt, firstFrom, search, positionOf, Inside, IsFirst, IsNone, Stands, FirstAvp, NoAvp}
+use Rattle.rules.specs.Avp.{named}
+use Rattle.rules.proofs.Tests.{and-true}
 use Rattle.rules.proofs.Walk.{by-cases}
 use Rattle.rules.proofs.Searches.{first-above, first-here, first-later, first-none}
 use Rattle.rules.proofs.demands.items.Lists.{not-both}
@@ -122,6 +124,27 @@ module _ (floor depth vendor code : ℕ) where
 
 -- ---- the search
 
+module _ (a : Avp) (depth vendor code : ℕ) where
+  stands : isAt a depth vendor code ≡ true → Stands a depth vendor code
+  stands e =
+      let x = and-true (eqb (a .depth) depth) (named a vendor code) e in
+      let y = and-true (eqb (a .vendor) vendor) (eqb (a .code) code) (x .1) in
+      record { depth-is = eqb-true _ _ (x .0); vendor-is = eqb-true _ _ (y .0); code-is = eqb-true _ _ (y .1) }
+
+  is-at : Stands a depth vendor code → isAt a depth vendor code ≡ true
+  is-at s =
+      rw (
+        eq-eqb (a .depth) depth (s .depth-is),
+        eq-eqb (a .vendor) vendor (s .vendor-is),
+        eq-eqb (a .code) code (s .code-is),
+      )
+
+  not-stands : isAt a depth vendor code ≡ false → Stands a depth vendor code → ⊥
+  not-stands e s = not-both (isAt a depth vendor code) (is-at s) e
+
+  not-at : (Stands a depth vendor code → ⊥) → isAt a depth vendor code ≡ false
+  not-at n = by-cases (isAt a depth vendor code) (λ h. absurd (n (stands h))) (λ h. h)
+
 -- "A search gives the first AVP at depth 1 with a vendor and code, as its position".
 -- Carried by first-is.
 -- Ruled out: a search that gives the last of several; one that takes a member of a group for an AVP of the command's own
@@ -130,8 +153,22 @@ pub search-first : (xs : List Avp) (vendor code i : ℕ) → (search xs vendor c
 search-first xs vendor code i =
     let q : i ≡ 0 + i = omega arith in
     let l = first-is 0 1 vendor code 0 xs i in (
-      λ e. let f = l .0 (e ∙ ap At q) in record { within = f .within; here = f .here; before = f .before },
-      λ f. l .1 (record { within = f .within; here = f .here; before = f .before; inside = λ j h. omega arith }) ∙ ap At (sym q),
+      λ e.
+          let f = l .0 (e ∙ ap At q) in
+          record {
+            within = f .within;
+            here = stands (avpIn xs i) 1 vendor code (f .here);
+            before = λ j h. not-stands (avpIn xs j) 1 vendor code (f .before j h);
+          },
+      λ f.
+          l .1
+          (record {
+            within = f .within;
+            here = is-at (avpIn xs i) 1 vendor code (f .here);
+            before = λ j h. not-at (avpIn xs j) 1 vendor code (f .before j h);
+            inside = λ j h. omega arith;
+          })
+          ∙ ap At (sym q),
     )
 
 -- "'none' exactly when there is none".
@@ -140,5 +177,7 @@ search-first xs vendor code i =
 -- none.
 pub search-none : (xs : List Avp) (vendor code : ℕ) → (search xs vendor code ≡ Nothing) ↔ NoAvp xs vendor code
 search-none xs vendor code =
-    let l = none-is 0 1 vendor code 0 xs in
-    (λ e i h. l .0 e i h (λ j k. omega arith), λ n. l .1 (λ i h inside. n i h))
+    let l = none-is 0 1 vendor code 0 xs in (
+      λ e i h. not-stands (avpIn xs i) 1 vendor code (l .0 e i h (λ j k. omega arith)),
+      λ n. l .1 (λ i h inside. not-at (avpIn xs i) 1 vendor code (n i h)),
+    )
