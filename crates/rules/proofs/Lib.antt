@@ -10,6 +10,7 @@ pub mod Walk
 pub mod Meanings
 pub mod Passed
 pub mod Header
+pub mod Writer
 pub mod Commands
 pub mod Steps
 pub mod Searches

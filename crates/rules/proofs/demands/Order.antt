@@ -4,8 +4,8 @@
 use mathlib.Core.Path.{_≡_, refl, ap, _∙_}
 use mathlib.Core.Bool.{true, false}
 use mathlib.Core.List.{List}
-use Prim.Native.Nat.{ℕ, _≤_, _<_}
-use borrow.Author.Tests.{lt-ltb, le-ltb, ltb-true, ltb-false, ne-eqb}
+use Prim.Native.Nat.{ℕ, _≤_}
+use borrow.Author.Tests.{ltb-true, ltb-false, ne-eqb}
 use lib.Dec.{ltb}
 use lib.ListN.{length}
 use Rattle.rules.specs.declared.Avp.{Avp}
@@ -21,6 +21,7 @@ use Rattle.rules.specs.Draft.{Draft, isWellFormed}
 use Rattle.rules.specs.Writer.{draftOctets, ownOutcome, draftOutcome, octetsWritten, writing}
 use Rattle.rules.specs.Demands.{AcceptedCommand}
 use Rattle.rules.specs.Order.{fitsTable, ownRows, groupRows, exchange, windows, FirstListFault, FirstFault, ownRefusal, WriterOrder, ownNumbers, WriterValues}
+use Rattle.rules.proofs.Writer.{by-form, by-length, by-room, none-own}
 use Rattle.rules.proofs.Walk.{by-cases}
 use Rattle.rules.proofs.demands.items.Lists.{not-both}
 use Rattle.rules.proofs.demands.numbering.Numbering.{command-fits, command-within, command-not-writers}
@@ -88,33 +89,13 @@ module _ (d : Draft) (out : List ℕ) where
   unfolding writing draftOutcome octetsWritten
   own-refusal number e = rw e
 
-  by-form : isWellFormed d ≡ false → ownOutcome d (length out) ≡ refused 7006 0 0 0
-  unfolding ownOutcome
-  by-form h = rw h
-
-  module _ (form : isWellFormed d ≡ true) where
-    by-length : longestCommand < length (draftOctets d) → ownOutcome d (length out) ≡ refused 7001 0 0 0
-    unfolding ownOutcome
-    by-length h = rw (form, lt-ltb longestCommand (length (draftOctets d)) h)
-
-    module _ (within : length (draftOctets d) ≤ longestCommand) where
-      by-room : length out < length (draftOctets d) → ownOutcome d (length out) ≡ refused 7004 0 0 0
-      unfolding ownOutcome
-      by-room h =
-          rw (form, le-ltb longestCommand (length (draftOctets d)) within, lt-ltb (length out) (length (draftOctets d)) h)
-
-      none-own : length (draftOctets d) ≤ length out → ownOutcome d (length out) ≡ Pass
-      unfolding ownOutcome
-      none-own h =
-          rw (form, le-ltb longestCommand (length (draftOctets d)) within, le-ltb (length out) (length (draftOctets d)) h)
-
   by-reader : ownOutcome d (length out) ≡ Pass → writing d out .verdict ≡ commandVerdict (draftOctets d)
   unfolding writing draftOutcome commandVerdict
   by-reader e = rw e
 
 -- "Order: 7006 [...]; 7001 if the command would exceed 16,384; 7004; then the refusal that the reader gives to those
 -- octets. Place, vendor and code are 0 for the first three; the length is 0 for all" (01, The record and the writer).
--- Carried by the definitions of ownOutcome and draftOutcome (rules/specs/Writer) alone; for the reader's refusals the length
+-- Carried by the laws of the writer's own refusals (proofs/Writer); for the reader's refusals the length
 -- is in demand-1-refused-write.
 -- Ruled out: a writer that says 7004 only of a command that the reader accepts; one whose 7001 stands at place 1, as the
 -- reader's does.

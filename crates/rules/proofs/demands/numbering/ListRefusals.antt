@@ -18,13 +18,20 @@ use Rattle.rules.specs.declared.Admission.the-variants.{ByRow, NoRow}
 use Rattle.rules.specs.declared.Grammar.{Grammar}
 use Rattle.rules.specs.declared.Found.{Found}
 use Rattle.rules.specs.declared.Found.the-variants.{At, Nothing}
+use Rattle.rules.specs.Verdict.{orElse}
 use Rattle.rules.specs.Avp.{endOf, named}
 use Rattle.rules.specs.Dictionary.{Entry, defined, membersOf}
 use Rattle.rules.specs.Rows.{Row, rowsOf, admitsOthers}
-use Rattle.rules.specs.RowChecks.{admission, noneMet, counted, byMark, byAdmission, memberOutcome, missingFrom, membersOutcome, membersAt, groupOutcome, groupsOutcome, rowsOutcome}
+use Rattle.rules.specs.RowChecks.{admission, noneMet, counted, byMark, byAdmission, memberOutcome, missingFrom, membersOutcome, membersAt, groupOutcome, groupsOutcome, listOutcome, rowsOutcome}
 use Rattle.rules.specs.Search.{avpIn, isAt, firstFrom, search, member}
 use Rattle.rules.specs.Exchange.{present, volume, firstRequest, laterRequest, requestBy, requestOutcome, resultBy, resultOutcome, ifFound, policiesBy, policiesOutcome, policyOutcome, policyAt, eachPolicy, answerOutcome, windowBy, windowOutcome, windowAt, eachWindow, byCommand, exchangeOutcome}
 use Rattle.rules.proofs.demands.numbering.Refusals.{meets, AvpRefusals, pass-meets, either, both, in-turn}
+
+-- the command's list, then each group
+rows-order : (dict : List Entry) (g : Grammar) (end : ℕ) (xs : List Avp)
+    → rowsOutcome dict g end xs ≡ orElse (listOutcome g 1 end xs) (groupsOutcome dict xs)
+unfolding rowsOutcome
+rows-order dict g end xs = refl
 
 module _ (t : Verdict → Bool) (r : AvpRefusals t) where
   -- ---- the rows
@@ -78,9 +85,9 @@ module _ (t : Verdict → Bool) (r : AvpRefusals t) where
 
   pub rows-meets : (dict : List Entry) (g : Grammar) (end : ℕ) (xs : List Avp)
       → meets t (rowsOutcome dict g end xs) ≡ true
-  unfolding rowsOutcome
   rows-meets dict g end xs =
-      in-turn t _ _ (members-meets g end noneMet true (membersAt 1 xs)) (groups-meets dict xs)
+      rw (rows-order dict g end xs)
+      (in-turn t _ _ (members-meets g end noneMet true (membersAt 1 xs)) (groups-meets dict xs))
 
   -- ---- the exchange rules
 
