@@ -68,6 +68,7 @@ abbrev pub requiresM : Definition → Bool
 requiresM (Known m form) = m
 requiresM Unknown = false
 
+-- whether the dictionary has the name
 abbrev pub isKnown : Definition → Bool
 isKnown (Known m form) = true
 isKnown Unknown = false
@@ -96,11 +97,13 @@ fitsForm Any length = true
 fitsForm (Fixed w) length = eqb length w
 fitsForm (Group g) length = true
 
+-- the same of what the dictionary says
 abbrev pub fitsWidth : Definition → ℕ → Bool
 fitsWidth (Known m form) length = fitsForm form length
 fitsWidth Unknown length = true
 
--- 01's number of a list: the code of the group, for a command's own list that of the command
+-- beyond 01: a list by a number, so that an answer that names a list is told by one. It is the code of the group, for a
+-- command's own list that of the command; no group's members go by a command's rows
 abbrev pub listNumber : Grammar → ℕ
 listNumber Request = codeBackgroundDataTransfer
 listNumber Answer = codeBackgroundDataTransfer

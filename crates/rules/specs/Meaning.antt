@@ -21,6 +21,7 @@ pub record Cell : Type 0 where
   pub length : ℕ
   pub octets : List ℕ
 
+-- the meaning: command flags, identifiers, the number of AVPs in the walk, and what each adds, in walk order
 pub record Meaning : Type 0 where
   pub r : Bool
   pub p : Bool
@@ -35,6 +36,7 @@ pub record Meaning : Type 0 where
 abbrev pub isReadGroup : List Entry → ℕ → ℕ → Bool
 isReadGroup dict vendor code = isGroup (find dict vendor code)
 
+-- what an AVP over octets adds
 abbrev pub cellOf : List Entry → List ℕ → Avp → Cell
 cellOf dict s a = record {
   depth = a .depth;

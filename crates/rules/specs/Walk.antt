@@ -25,6 +25,7 @@ pub record Standing : Type 0 where
   pub depth : ℕ
   pub count : ℕ
 
+-- a standing by its four numbers
 abbrev pub standing : ℕ → ℕ → ℕ → ℕ → Standing
 standing at end depth count = record { at = at; end = end; depth = depth; count = count }
 
@@ -32,7 +33,7 @@ standing at end depth count = record { at = at; end = end; depth = depth; count 
 abbrev pub mostAvps : ℕ
 mostAvps = 256
 
--- an AVP stands no deeper than 4, so a group, which has members, no deeper than 3
+-- an AVP stands no deeper than 4, and a read group, also an empty one, no deeper than 3
 abbrev pub deepest : ℕ
 deepest = 4
 
@@ -115,6 +116,7 @@ pub data Walked : Type 0 where
   whole : List Avp → Walked
   stopped : List Avp → Verdict → Walked
 
+-- the AVPs that a walk met
 abbrev pub avpsOf : Walked → List Avp
 avpsOf (whole xs) = xs
 avpsOf (stopped xs v) = xs
