@@ -77,7 +77,7 @@ pub extern "C" fn talazumir_search(
     let used = numbers::used(numbers);
     let mut i: usize = 0;
     while i < used {
-        if lookup::is_found(numbers::get(numbers, i), vendor, code) {
+        if lookup::matches(numbers::get(numbers, i), vendor, code) {
             return i as u32;
         }
         i += 1;

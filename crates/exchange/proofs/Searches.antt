@@ -15,7 +15,7 @@ use Rattle.rules.proofs.Searches.{first-above, first-here, first-later, first-n
 use Rattle.log.specs.Log.{avpOf, avpsIn}
 use Rattle.log.proofs.Log.{avps-cons, avps-end}
 use Rattle.rules.specs.Search.{isAt}
-use Rattle.exchange.specs.Positions.{IsFound}
+use Rattle.exchange.specs.Positions.{FoundBelow}
 
 -- ---- an AVP at a depth with a name: the name first, then the depth
 
@@ -36,10 +36,10 @@ module _ (a : Avp) (vendor code depth : ℕ) where
 
 -- ---- the answer
 
-found-at : (f : Found) (count i : ℕ) → i < count → f ≡ At i → IsFound f count (At i)
+found-at : (f : Found) (count i : ℕ) → i < count → f ≡ At i → FoundBelow f count (At i)
 found-at f count i h e = record { is = sym e; used = λ j p. let q : i ≡ j = cc in omega arith }
 
-found-nothing : (f : Found) (count : ℕ) → f ≡ Nothing → IsFound f count Nothing
+found-nothing : (f : Found) (count : ℕ) → f ≡ Nothing → FoundBelow f count Nothing
 found-nothing f count e = record { is = sym e; used = λ j p. let z : _≡_ {A = ℕ} 0 1 = cc in absurd (omega arith) }
 
 -- what a search from a position of the log on gives
@@ -49,7 +49,7 @@ firstIn log count floor depth vendor code i = firstFrom i floor depth (drop i (a
 -- a search from `from` on that has come to position i
 module _ (log : List ℕ) (count floor depth vendor code from i : ℕ) (room : count ≤ 256)
     (left : firstIn log count floor depth vendor code i ≡ firstIn log count floor depth vendor code from) where
-  pub found-end : count ≤ i → IsFound (firstIn log count floor depth vendor code from) count Nothing
+  pub found-end : count ≤ i → FoundBelow (firstIn log count floor depth vendor code from) count Nothing
   found-end h = found-nothing _ count (sym left ∙ rw (avps-end log count i room h) (first-none i floor depth vendor code))
 
   module _ (a : Avp) (e : a ≡ avpOf log i) (h : i < count) where
@@ -57,11 +57,11 @@ module _ (log : List ℕ) (count floor depth vendor code from i : ℕ) (room : c
         ≡ firstFrom i floor depth (a ∷ drop (i + 1) (avpsIn log count)) vendor code
     next = sym left ∙ rw (avps-cons log count i room h, e)
 
-    pub found-above : a .depth < floor → IsFound (firstIn log count floor depth vendor code from) count Nothing
+    pub found-above : a .depth < floor → FoundBelow (firstIn log count floor depth vendor code from) count Nothing
     found-above k = found-nothing _ count (next ∙ first-above i floor depth a (drop (i + 1) (avpsIn log count)) vendor code k)
 
     module _ (k : floor ≤ a .depth) (b : Bool) (t : b ≡ isAt a depth vendor code) where
-      pub found-here : b ≡ true → IsFound (firstIn log count floor depth vendor code from) count (At i)
+      pub found-here : b ≡ true → FoundBelow (firstIn log count floor depth vendor code from) count (At i)
       found-here p =
           found-at _ count i h (next ∙ first-here i floor depth a (drop (i + 1) (avpsIn log count)) vendor code k (sym t ∙ p))
 

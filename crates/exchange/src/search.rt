@@ -10,7 +10,7 @@ ghost use Rattle.rules.specs.Exchange.{require as requireIn};
 ghost use Rattle.rules.specs.Walk.{mostAvps};
 ghost use Rattle.log.specs.Log.{avpOf, avpsIn};
 ghost use Rattle.rules.specs.Search.{isAt};
-ghost use Rattle.exchange.specs.Positions.{Position, IsFound};
+ghost use Rattle.exchange.specs.Positions.{Position, FoundBelow};
 use avp::refusal;
 use rules::Found;
 use rules::Outcome;
@@ -49,7 +49,7 @@ pub(crate) fn first(
     code: u32,
 ) -> Found
     requires { ⌜ count ≤ mostAvps ⌝ }
-    ensures { λ r. ⌜ IsFound (firstFrom from floor depth (drop from (avpsIn (now (log .entry)) count)) vendor code) count r ⌝ }
+    ensures { λ r. ⌜ FoundBelow (firstFrom from floor depth (drop from (avpsIn (now (log .entry)) count)) vendor code) count r ⌝ }
 {
     let mut i = from;
     while i < count {
@@ -72,7 +72,7 @@ pub(crate) fn search(
     code: u32,
 ) -> Found
     requires { ⌜ count ≤ mostAvps ⌝ }
-    ensures { λ r. ⌜ IsFound (searched (avpsIn (now (log .entry)) count) vendor code) count r ⌝ }
+    ensures { λ r. ⌜ FoundBelow (searched (avpsIn (now (log .entry)) count) vendor code) count r ⌝ }
 {
     first(log, 0, count, 0, 1, vendor, code)
 }
@@ -87,7 +87,7 @@ pub(crate) fn member(
     code: u32,
 ) -> Found
     requires { ⌜ Position i count ⌝ }
-    ensures { λ r. ⌜ IsFound (memberOf (avpsIn (now (log .entry)) count) i depth vendor code) count r ⌝ }
+    ensures { λ r. ⌜ FoundBelow (memberOf (avpsIn (now (log .entry)) count) i depth vendor code) count r ⌝ }
 {
     first(log, i + 1, count, depth, depth, vendor, code)
 }

@@ -13,7 +13,7 @@ use lib.Seq.{sets, sets-eq, getD-append-add, getD-set-other, getD-drop, length-t
 use Rattle.rules.specs.declared.Avp.{Avp}
 use Rattle.rules.specs.Avp.{endOf}
 use Rattle.rules.specs.Search.{blank, avpIn}
-use Rattle.log.specs.Log.{bit, numbersAt, putAvp, avpFrom, avpOf, avpsFrom, avpsIn, written}
+use Rattle.log.specs.Log.{bit, numbersAt, putAvp, avpFrom, avpOf, avpsFrom, avpsIn, putAvps}
 
 module _ (log : List ℕ) (i : ℕ) where
   pub avpOf-out : 256 ≤ i → avpOf log i ≡ blank
@@ -171,35 +171,35 @@ module _ (log : List ℕ) (i : ℕ) (a : Avp) (few : i < 256) (fits : endOf a < 
       ∙ numbers-before log (i * 7) a (j * 7) (omega arith)
       ∙ sym (avpOf-in log j (omega arith))
 
-written-before : (xs : List Avp) (log : List ℕ) (i j : ℕ) → i + length xs ≤ 256 → AllFit xs → j < i → avpOf (written log i xs) j ≡ avpOf log j
-written-before [] log i j few fits h = refl
-written-before (a ∷ xs) log i j few fits h =
-    written-before xs (putAvp log i a) (i + 1) j (omega arith) (fits .1) (omega arith)
+putAvps-before : (xs : List Avp) (log : List ℕ) (i j : ℕ) → i + length xs ≤ 256 → AllFit xs → j < i → avpOf (putAvps log i xs) j ≡ avpOf log j
+putAvps-before [] log i j few fits h = refl
+putAvps-before (a ∷ xs) log i j few fits h =
+    putAvps-before xs (putAvp log i a) (i + 1) j (omega arith) (fits .1) (omega arith)
     ∙ put-before log i a (omega arith) (fits .0) j h
 
-written-from : (xs : List Avp) (log : List ℕ) (i : ℕ) → length log ≡ 1792 → i + length xs ≤ 256 → AllFit xs
-    → avpsFrom (written log i xs) i (length xs) ≡ xs
+putAvps-from : (xs : List Avp) (log : List ℕ) (i : ℕ) → length log ≡ 1792 → i + length xs ≤ 256 → AllFit xs
+    → avpsFrom (putAvps log i xs) i (length xs) ≡ xs
 unfolding avpsFrom
-written-from [] log i room few fits = refl
-written-from (a ∷ xs) log i room few fits =
-    let one : avpOf (written (putAvp log i a) (i + 1) xs) i ≡ a =
-    written-before xs (putAvp log i a) (i + 1) i (omega arith) (fits .1) (omega arith)
+putAvps-from [] log i room few fits = refl
+putAvps-from (a ∷ xs) log i room few fits =
+    let one : avpOf (putAvps (putAvp log i a) (i + 1) xs) i ≡ a =
+    putAvps-before xs (putAvp log i a) (i + 1) i (omega arith) (fits .1) (omega arith)
     ∙ put-same log i a (omega arith) (fits .0) room in
-    let rest : avpsFrom (written (putAvp log i a) (i + 1) xs) (i + 1) (length xs) ≡ xs =
-    written-from xs (putAvp log i a) (i + 1) (length-putAvp log i a (omega arith) (fits .0) ∙ room) (omega arith) (fits .1) in
+    let rest : avpsFrom (putAvps (putAvp log i a) (i + 1) xs) (i + 1) (length xs) ≡ xs =
+    putAvps-from xs (putAvp log i a) (i + 1) (length-putAvp log i a (omega arith) (fits .0) ∙ room) (omega arith) (fits .1) in
     cc
 
 -- AVPs that were put into a log are the AVPs of the log
-pub avps-written : (xs : List Avp) (log : List ℕ) → length log ≡ 1792 → length xs ≤ 256 → AllFit xs
-    → avpsIn (written log 0 xs) (length xs) ≡ xs
+pub avps-put : (xs : List Avp) (log : List ℕ) → length log ≡ 1792 → length xs ≤ 256 → AllFit xs
+    → avpsIn (putAvps log 0 xs) (length xs) ≡ xs
 unfolding avpsIn
-avps-written xs log room few fits =
+avps-put xs log room few fits =
     let e : min (length xs) 256 ≡ length xs = omega arith in
-    rw e (written-from xs log 0 room (omega arith) fits)
+    rw e (putAvps-from xs log 0 room (omega arith) fits)
 
 -- more AVPs behind those that were put in
-pub written-append : (log : List ℕ) (i : ℕ) (xs ys : List Avp) → written log i (xs ++ ys) ≡ written (written log i xs) (i + length xs) ys
-written-append log i [] ys = simp add-zero
-written-append log i (a ∷ xs) ys =
+pub putAvps-append : (log : List ℕ) (i : ℕ) (xs ys : List Avp) → putAvps log i (xs ++ ys) ≡ putAvps (putAvps log i xs) (i + length xs) ys
+putAvps-append log i [] ys = simp add-zero
+putAvps-append log i (a ∷ xs) ys =
     let h : i + 1 + length xs ≡ i + suc (length xs) = omega arith in
-    rw (← h) (written-append (putAvp log i a) (i + 1) xs ys)
+    rw (← h) (putAvps-append (putAvp log i a) (i + 1) xs ys)

@@ -60,6 +60,6 @@ unfoldable pub avpsIn : List ℕ → ℕ → List Avp
 avpsIn log count = avpsFrom log 0 (min count mostAvps)
 
 -- the log with AVPs put in from a position on
-abbrev pub written : List ℕ → ℕ → List Avp → List ℕ
-written log i [] = log
-written log i (a ∷ xs) = written (putAvp log i a) (i + 1) xs
+abbrev pub putAvps : List ℕ → ℕ → List Avp → List ℕ
+putAvps log i [] = log
+putAvps log i (a ∷ xs) = putAvps (putAvp log i a) (i + 1) xs

@@ -12,7 +12,7 @@ use rules::Record;
 use rules::limits;
 
 // What a search looks for: an AVP at depth 1 with a vendor and code.
-pub fn is_found(a: Avp, vendor: u32, code: u32) -> bool
+pub fn matches(a: Avp, vendor: u32, code: u32) -> bool
     ensures { λ r. ⌜ r ≡ isAt a 1 vendor code ⌝ }
 {
     if a.depth != 1 {
@@ -60,7 +60,7 @@ pub fn search(record: Record, vendor: u32, code: u32) -> Found
             return Found::Nothing;
         }
         let a = record.avps[i];
-        if is_found(a, vendor, code) {
+        if matches(a, vendor, code) {
             return Found::At(i);
         }
         i += 1;

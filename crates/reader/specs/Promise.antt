@@ -11,7 +11,7 @@ use Rattle.rules.specs.Verdict.{verdictOf}
 use Rattle.rules.specs.Header.{headerSize, headerOutcome}
 use Rattle.rules.specs.Walk.{mostAvps, avpsOf}
 use Rattle.rules.specs.Command.{walkOf, commandOutcome, commandVerdict}
-use Rattle.log.specs.Log.{avpsIn, written}
+use Rattle.log.specs.Log.{avpsIn, putAvps}
 use Rattle.reader.specs.declared.Judgement.{Judgement}
 
 -- the AVPs that a command's walk met; none where its header is refused
@@ -21,7 +21,7 @@ metBy s (Refused v) = []
 
 -- a log after a command was judged: the AVPs that its walk met, from position 0 on
 unfoldable pub logAfter : List ℕ → List ℕ → List ℕ
-logAfter s before = written before 0 (metBy s (headerOutcome s))
+logAfter s before = putAvps before 0 (metBy s (headerOutcome s))
 
 -- what judging a command gives, and for an accepted one its AVPs
 pub record IsJudged (s before : List ℕ) (r : Judgement) (after : List ℕ) : Type 0 where

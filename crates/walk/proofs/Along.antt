@@ -11,8 +11,8 @@ use Rattle.rules.specs.Avp.{nextAt}
 use Rattle.rules.specs.Dictionary.{dictionary}
 use Rattle.rules.specs.Walk.{Standing, standing, mostAvps, Walked, whole, stopped, avpsOf, after, andThen, walkAvp, walkList}
 use Rattle.rules.proofs.Walk.{after-nil, after-after, avps-after, list-end, list-more}
-use Rattle.log.specs.Log.{written}
-use Rattle.log.proofs.Log.{written-append}
+use Rattle.log.specs.Log.{putAvps}
+use Rattle.log.proofs.Log.{putAvps-append}
 use Rattle.walk.specs.declared.Walk.the-variants.{Whole, Stopped}
 use Rattle.walk.specs.declared.Step.the-variants.{On, Halted}
 use Rattle.walk.specs.Promise.{answerOf, AvpWalked, ListWalked}
@@ -25,7 +25,7 @@ pub record Along (s : List ℕ) (w : Standing) (before : List ℕ) (n at count :
   pub enough : w .end - at ≤ left
   pub same : walkList n dictionary s w ≡ after met (walkList left dictionary s (standing at (w .end) (w .depth) count))
   pub counted : count ≡ w .count + length met
-  pub logged : log ≡ written before (w .count) met
+  pub logged : log ≡ putAvps before (w .count) met
 
 -- what an answer tells of the walk behind it
 whole-walk : (count c : ℕ) (v : Walked) → Whole c ≡ answerOf count v → (c ≡ count + length (avpsOf v)) × (v ≡ whole (avpsOf v))
@@ -62,7 +62,7 @@ module _ (s : List ℕ) (w : Standing) (before : List ℕ) where
 
     turn-on : (met : List Avp) (left : ℕ) → w .end - at ≤ left
         → walkList n dictionary s w ≡ after met (walkList left dictionary s (here at count))
-        → count ≡ w .count + length met → log ≡ written before (w .count) met
+        → count ≡ w .count + length met → log ≡ putAvps before (w .count) met
         → (c next : ℕ) (log′ : List ℕ) → AvpWalked s (here at count) log (On c next) log′
         → Along s w before n next c log′
     turn-on met zero h e k l c next log′ i = absurd (omega arith)
@@ -80,22 +80,22 @@ module _ (s : List ℕ) (w : Standing) (before : List ℕ) where
           enough = omega arith;
           same = e ∙ ap (after met) one ∙ after-after met xs (walkList m dictionary s (here next c));
           counted = rw length-append (omega arith);
-          logged = i .logged m h ∙ rw (written-append, ← l, ← k);
+          logged = i .logged m h ∙ rw (putAvps-append, ← l, ← k);
         }
 
     stop-on : (met : List Avp) (left : ℕ) → w .end - at ≤ left
         → walkList n dictionary s w ≡ after met (walkList left dictionary s (here at count))
-        → count ≡ w .count + length met → log ≡ written before (w .count) met
+        → count ≡ w .count + length met → log ≡ putAvps before (w .count) met
         → (v : Verdict) (log′ : List ℕ) → AvpWalked s (here at count) log (Halted v) log′
         → (Stopped v ≡ answerOf (w .count) (walkList n dictionary s w))
-        × (log′ ≡ written before (w .count) (avpsOf (walkList n dictionary s w)))
+        × (log′ ≡ putAvps before (w .count) (avpsOf (walkList n dictionary s w)))
     stop-on met zero h e k l v log′ i = absurd (omega arith)
     stop-on met (suc m) h e k l v log′ i =
         let u : Walked = walkAvp (walkList m dictionary s) dictionary s (here at count) in
         let xs : List Avp = avpsOf u in
         let one : walkList (suc m) dictionary s (here at count) ≡ stopped xs v =
         one-more m (stopped xs v) (stopped-walk count v u (step-halted (nextAt s at) v (answerOf count u) (i .answer m h))) in
-        (rw (e, one), rw (e, one) (i .logged m h ∙ rw (written-append, ← l, ← k)))
+        (rw (e, one), rw (e, one) (i .logged m h ∙ rw (putAvps-append, ← l, ← k)))
 
   -- the loop's invariant
   pub record Turn (at count : ℕ) (log : List ℕ) : Type 0 where
@@ -125,7 +125,7 @@ module _ (s : List ℕ) (w : Standing) (before : List ℕ) where
     turn-stopped more v log′ i =
         let stop : (n : ℕ) → w .end - w .at ≤ n
         → (Stopped v ≡ answerOf (w .count) (walkList n dictionary s w))
-        × (log′ ≡ written before (w .count) (avpsOf (walkList n dictionary s w))) =
+        × (log′ ≡ putAvps before (w .count) (avpsOf (walkList n dictionary s w))) =
         λ n h.
         let x = t .along n h in
         stop-on n at count log more (x .met) (x .left) (x .enough) (x .same) (x .counted) (x .logged) v log′ i in

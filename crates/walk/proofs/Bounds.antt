@@ -16,8 +16,8 @@ use Rattle.rules.specs.Walk.{Standing, checked, Walked, whole, stopped, avpsOf,
 use Rattle.rules.specs.Command.{ownList, walkOf}
 use Rattle.rules.proofs.Walk.{by-cases, avps-after, avp-fault, avp-plain, avp-group, list-none, list-end, list-more}
 use Rattle.rules.proofs.Passed.{plain-framed, group-framed}
-use Rattle.log.specs.Log.{avpsIn, written}
-use Rattle.log.proofs.Log.{AllFit, avps-written}
+use Rattle.log.specs.Log.{avpsIn, putAvps}
+use Rattle.log.proofs.Log.{AllFit, avps-put}
 use Rattle.walk.specs.declared.Walk.{Walk}
 use Rattle.walk.specs.declared.Walk.the-variants.{Whole, Stopped}
 use Rattle.walk.specs.Answer.{verdictOfWalk, countOfWalk, countOf}
@@ -94,11 +94,11 @@ module _ (s : List ℕ) where
         (rw command-walk (list-bounded (length s) (length s) s (ownList s) (omega arith)))
 
     -- a whole walk of at most 256 AVPs is read back from its log
-    read-back : (before after : List ℕ) → length before ≡ 1792 → after ≡ written before 0 (avpsOf (commandWalk s))
+    read-back : (before after : List ℕ) → length before ≡ 1792 → after ≡ putAvps before 0 (avpsOf (commandWalk s))
         → (c : ℕ) → c ≤ 256 → (w : Walked) → commandWalk s ≡ w → Whole c ≡ answerOf 0 w → avpsIn after c ≡ avpsOf (commandWalk s)
     read-back before after room logged c few (whole xs) e q =
         let n : c ≡ length xs = omega (arith, whole-count) in
-        rw (logged, e, n) (avps-written xs before room (omega arith) (rw e at command-fits))
+        rw (logged, e, n) (avps-put xs before room (omega arith) (rw e at command-fits))
       where
         whole-count : c ≡ 0 + length xs
         whole-count = cc
@@ -108,7 +108,7 @@ module _ (s : List ℕ) where
         → ListWalked s (ownList s) before r after → CommandWalked s before r after
     command-walked before after r room l =
         let answer : r ≡ answerOf 0 (commandWalk s) = rw command-walk (l .answer (length s) (omega arith)) in
-        let logged : after ≡ written before 0 (avpsOf (commandWalk s)) = rw command-walk (l .logged (length s) (omega arith)) in
+        let logged : after ≡ putAvps before 0 (avpsOf (commandWalk s)) = rw command-walk (l .logged (length s) (omega arith)) in
         record {
           told = ap verdictOfWalk answer ∙ told-walk (commandWalk s);
           counted = ap countOfWalk answer ∙ counted-walk (commandWalk s);
@@ -121,7 +121,7 @@ module _ (s : List ℕ) where
     pub none-walked : (before : List ℕ) → length before ≡ 1792 → length s < 20 → CommandWalked s before (Whole 0) before
     none-walked before room h =
         let answer : Whole 0 ≡ answerOf 0 (commandWalk s) = rw (no-list h) in
-        let logged : before ≡ written before 0 (avpsOf (commandWalk s)) = rw (no-list h) in
+        let logged : before ≡ putAvps before 0 (avpsOf (commandWalk s)) = rw (no-list h) in
         record {
           told = ap verdictOfWalk answer ∙ told-walk (commandWalk s);
           counted = ap countOfWalk answer ∙ counted-walk (commandWalk s);

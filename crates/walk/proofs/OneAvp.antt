@@ -14,7 +14,7 @@ use Rattle.rules.specs.Walk.{Standing, mostAvps, deepest, checked, Walked, whol
 use Rattle.rules.proofs.Fields.{avpAt-depth}
 use Rattle.rules.proofs.Walk.{avps-after, avp-fault, avp-plain, avp-group}
 use Rattle.rules.proofs.Passed.{group-is, passed-few, plain-framed, group-framed}
-use Rattle.log.specs.Log.{putAvp, written}
+use Rattle.log.specs.Log.{putAvp, putAvps}
 use Rattle.walk.specs.declared.Walk.{Walk}
 use Rattle.walk.specs.declared.Walk.the-variants.{Whole, Stopped}
 use Rattle.walk.specs.declared.Step.the-variants.{On, Halted}
@@ -81,7 +81,7 @@ module _ (s : List ℕ) (w : Standing) (log : List ℕ) where
           logged = λ n h.
               rw (avp-group (walkList n dictionary s) dictionary s w e, avps-after)
               (l .logged n (omega arith)
-              ∙ ap (λ (x : List ℕ). written x (w .count + 1) (avpsOf (walkList n dictionary s (inGroup w a)))) put);
+              ∙ ap (λ (x : List ℕ). putAvps x (w .count + 1) (avpsOf (walkList n dictionary s (inGroup w a)))) put);
           within = λ c next q.
               let k = step-on (nextAfter a) next c r (sym q) in
               (omega arith, omega arith, l .within c (sym (k .1)));

@@ -16,7 +16,7 @@ use Rattle.rules.specs.Avp.{flagM, flagP, nextAt}
 use Rattle.rules.specs.Dictionary.{dictionary}
 use Rattle.rules.specs.Walk.{Standing, mostAvps, deepest, Walked, whole, stopped, avpsOf, stopOf, walkAvp, walkList}
 use Rattle.rules.specs.Command.{walkOf}
-use Rattle.log.specs.Log.{avpsIn, written}
+use Rattle.log.specs.Log.{avpsIn, putAvps}
 use Rattle.walk.specs.declared.frame.Frame.{Frame}
 use Rattle.walk.specs.declared.frame.Frame.the-variants.{Holds, Broken}
 use Rattle.walk.specs.declared.Walk.{Walk}
@@ -77,13 +77,13 @@ pub record AvpWalked (s : List ℕ) (w : Standing) (before : List ℕ) (r : Step
   pub answer : (n : ℕ) → w .end - w .at ≤ suc n
       → r ≡ stepTo (nextAt s (w .at)) (answerOf (w .count) (walkAvp (walkList n dictionary s) dictionary s w))
   pub logged : (n : ℕ) → w .end - w .at ≤ suc n
-      → after ≡ written before (w .count) (avpsOf (walkAvp (walkList n dictionary s) dictionary s w))
+      → after ≡ putAvps before (w .count) (avpsOf (walkAvp (walkList n dictionary s) dictionary s w))
   pub within : (c next : ℕ) → r ≡ On c next → (w .at < next) × (next ≤ w .end) × (c ≤ mostAvps)
 
 -- the list walk
 pub record ListWalked (s : List ℕ) (w : Standing) (before : List ℕ) (r : Walk) (after : List ℕ) : Type 0 where
   pub answer : (n : ℕ) → w .end - w .at ≤ n → r ≡ answerOf (w .count) (walkList n dictionary s w)
-  pub logged : (n : ℕ) → w .end - w .at ≤ n → after ≡ written before (w .count) (avpsOf (walkList n dictionary s w))
+  pub logged : (n : ℕ) → w .end - w .at ≤ n → after ≡ putAvps before (w .count) (avpsOf (walkList n dictionary s w))
   pub within : (c : ℕ) → r ≡ Whole c → c ≤ mostAvps
 
 -- the walk of a command; one longer than 16,384 octets is 7001 at 1, as by its header
@@ -95,6 +95,6 @@ pub record CommandWalked (s before : List ℕ) (r : Walk) (after : List ℕ) : T
   pub told : verdictOfWalk r ≡ verdictOf (stopOf (commandWalk s))
   pub counted : countOfWalk r ≡ countOf (commandWalk s)
   pub answer : r ≡ answerOf 0 (commandWalk s)
-  pub logged : after ≡ written before 0 (avpsOf (commandWalk s))
+  pub logged : after ≡ putAvps before 0 (avpsOf (commandWalk s))
   pub few : (c : ℕ) → r ≡ Whole c → c ≤ mostAvps
   pub read : (c : ℕ) → r ≡ Whole c → avpsIn after c ≡ avpsOf (commandWalk s)

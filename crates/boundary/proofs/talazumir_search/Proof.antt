@@ -27,8 +27,8 @@ loop-holds c =
 get-requires : tie.Need-get-requires Inv-loop μ-loop
 get-requires c κs = search needs
 
-is-found-requires : tie.Need-is-found-requires Inv-loop μ-loop
-is-found-requires c κs = search needs
+matches-requires : tie.Need-matches-requires Inv-loop μ-loop
+matches-requires c κs = search needs
 
 cast-result : tie.Need-cast-result Inv-loop μ-loop
 cast-result c = omega arith
@@ -38,7 +38,7 @@ returns c =
     let g = c .before .before in
     let l = g .before .before .loop in
     let a = g .before .before .before .before .args in
-    let here = position-here (a .numbers .now) (a .vendor) (a .code) (l .i) (omega (arith, g .before, l .inv .1 .0)) (g .get .result) (g .get .ensures) (sym (c .before .is-found .ensures) ∙ c .if1 .taken) in
+    let here = position-here (a .numbers .now) (a .vendor) (a .code) (l .i) (omega (arith, g .before, l .inv .1 .0)) (g .get .result) (g .get .ensures) (sym (c .before .matches .ensures) ∙ c .if1 .taken) in
     omega (arith, here, l .inv .1 .1)
 
 add-i : tie.Need-add-i Inv-loop μ-loop
@@ -55,7 +55,7 @@ loop-again c =
       omega arith,
       (
         l .inv .1 .0,
-        sym (position-later (a .numbers .now) (a .vendor) (a .code) (l .i) (omega (arith, g .before, l .inv .1 .0)) (g .get .result) (g .get .ensures) (sym (c .before .is-found .ensures) ∙ c .if1 .left))
+        sym (position-later (a .numbers .now) (a .vendor) (a .code) (l .i) (omega (arith, g .before, l .inv .1 .0)) (g .get .result) (g .get .ensures) (sym (c .before .matches .ensures) ∙ c .if1 .left))
             ∙ l .inv .1 .1,
       ),
     )
@@ -79,7 +79,7 @@ talazumir-search-spec =
     used-requires
     loop-holds
     get-requires
-    is-found-requires
+    matches-requires
     cast-result
     returns
     add-i

@@ -40,8 +40,8 @@ mul-a c = omega arith
 element-copy-out-a : tie.Need-element-copy-out-a Inv-loop μ-loop
 element-copy-out-a c = omega arith
 
-is-found-requires : tie.Need-is-found-requires Inv-loop μ-loop
-is-found-requires c κs = search needs
+matches-requires : tie.Need-matches-requires Inv-loop μ-loop
+matches-requires c κs = search needs
 
 returns-2 : tie.Need-returns-2 Inv-loop μ-loop
 returns-2 c =
@@ -51,7 +51,7 @@ returns-2 c =
     let a = st .args in
     let f = full st in
     answers _ _ _
-    (sym (search-here (a .t1) f (a .vendor) (a .code) (l .i) (omega (arith, e, e .before, l .inv .1 .0)) (sym (c .before .is-found .ensures) ∙ c .if2 .taken))
+    (sym (search-here (a .t1) f (a .vendor) (a .code) (l .i) (omega (arith, e, e .before, l .inv .1 .0)) (sym (c .before .matches .ensures) ∙ c .if2 .taken))
     ∙ l .inv .1 .1 f)
 
 add-i : tie.Need-add-i Inv-loop μ-loop
@@ -70,7 +70,7 @@ loop-again c =
       (
         l .inv .1 .0,
         λ f.
-            sym (search-later (a .t1) f (a .vendor) (a .code) (l .i) (omega (arith, e, e .before, l .inv .1 .0)) (sym (c .before .is-found .ensures) ∙ c .if2 .left))
+            sym (search-later (a .t1) f (a .vendor) (a .code) (l .i) (omega (arith, e, e .before, l .inv .1 .0)) (sym (c .before .matches .ensures) ∙ c .if2 .left))
             ∙ l .inv .1 .1 f,
       ),
     )
@@ -95,7 +95,7 @@ search-spec =
     returns
     mul-a
     element-copy-out-a
-    is-found-requires
+    matches-requires
     returns-2
     add-i
     loop-less

@@ -23,7 +23,7 @@ use Rattle.rules.proofs.demands.items.Lists.{tights, size-octets}
 use Rattle.rules.proofs.demands.written.Headers.{command-long, command-list}
 use Rattle.rules.proofs.demands.written.Writing.{zeroed, cells-zeroed, list-octets, Writable, head-written, walk-written, meaning-written}
 use Rattle.rules.proofs.demands.octets.Digits.{numberAt-below}
-use Rattle.rules.proofs.demands.read.Commands.{Accepted, cells-are}
+use Rattle.rules.proofs.demands.read.Commands.{AcceptedItems, cells-are}
 use Rattle.rules.proofs.demands.again.Contents.{four-4203, four-4205, four-4206}
 use Rattle.rules.proofs.demands.again.Passes.{Passes, passes-of, judged-whole, avps-same, passes-again, numbers-again}
 use Rattle.rules.proofs.demands.again.Exchanges.{exchange-same}
@@ -72,7 +72,7 @@ lists-same : (s t : List ℕ) (xs : List Avp) → length s ≡ length t
 unfolding listsOutcome
 lists-same s t xs l r e = rw (l, r, e (isRequest (commandFlags t)) (length t))
 
-module _ (c : List ℕ) (oct : AreOctets c) (k : Accepted c) where
+module _ (c : List ℕ) (oct : AreOctets c) (k : AcceptedItems c) where
   -- the octets that the writer gives
   abbrev again : List ℕ
   again = commandOctets (meaningOf c)

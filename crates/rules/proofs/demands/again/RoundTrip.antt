@@ -32,7 +32,7 @@ use Rattle.rules.proofs.demands.items.Trees.{isGroupCell}
 use Rattle.rules.proofs.demands.items.Sequences.{length-cons, avps-nil, avps-cons, length-avps}
 use Rattle.rules.proofs.demands.written.Drafts.{WellFormed, is-well-formed}
 use Rattle.rules.proofs.demands.octets.Digits.{numberAt-below}
-use Rattle.rules.proofs.demands.read.Commands.{Accepted, accepted, avps-are, cells-are}
+use Rattle.rules.proofs.demands.read.Commands.{AcceptedItems, accepted-items, avps-are, cells-are}
 use Rattle.rules.proofs.demands.again.Canonical.{again-long, again-accepted, again-means}
 
 -- ---- the record of some AVPs
@@ -91,8 +91,8 @@ names-all dict (x ∷ xs) at f =
 -- ---- a command's own record, over its octets
 
 module _ (c : List ℕ) (oct : AreOctets c) (pass : commandOutcome c ≡ Pass) where
-  read : Accepted c
-  read = accepted c oct pass
+  read : AcceptedItems c
+  read = accepted-items c oct pass
 
   abbrev avps : List Avp
   avps = avpsAt 20 (read .items)

@@ -27,7 +27,7 @@ use Rattle.rules.proofs.demands.agreement.Depths.{same-cells}
 use Rattle.rules.proofs.demands.agreement.Paddings.{padding-below}
 use Rattle.rules.proofs.demands.agreement.Places.{number-same, octet-same}
 use Rattle.rules.proofs.demands.agreement.Alike.{same-octets, Alike, same-flats}
-use Rattle.rules.proofs.demands.read.Commands.{Accepted, accepted, avps-are, cells-are, count-is}
+use Rattle.rules.proofs.demands.read.Commands.{AcceptedItems, accepted-items, avps-are, cells-are, count-is}
 
 -- ---- of the flags octet R, P, E, T
 
@@ -61,7 +61,7 @@ module _ (f g : ℕ) where
 
 -- ---- the theorem
 
-module _ (a b : List ℕ) (oa : AreOctets a) (ob : AreOctets b) (ka : Accepted a) (kb : Accepted b) where
+module _ (a b : List ℕ) (oa : AreOctets a) (ob : AreOctets b) (ka : AcceptedItems a) (kb : AcceptedItems b) where
   -- the header's octets, of which the flags are the fifth
   header-octet : meaningOf a ≡ meaningOf b → length a ≡ length b → (i : ℕ) → i < 20 → (i ≡ 4 → ⊥)
       → getD a i 0 ≡ getD b i 0
@@ -156,6 +156,6 @@ module _ (a b : List ℕ) (oa : AreOctets a) (ob : AreOctets b) (ka : Accepted a
 pub same-meaning : (a b : List ℕ) → AreOctets a → AreOctets b → commandOutcome a ≡ Pass → commandOutcome b ≡ Pass
     → (meaningOf a ≡ meaningOf b) ↔ Agree a b
 same-meaning a b oa ob pa pb =
-    let ka = accepted a oa pa in
-    let kb = accepted b ob pb in
+    let ka = accepted-items a oa pa in
+    let kb = accepted-items b ob pb in
     (means-agree a b oa ob ka kb, agree-means a b oa ob ka kb)

@@ -13,7 +13,7 @@ use Rattle.rules.specs.Draft.{Draft, draftMeaning}
 use Rattle.rules.specs.Writer.{draftOctets, draftOutcome, octetsBy, octetsWritten, writing, outputAfter}
 use Rattle.rules.specs.Calls.{front, rest, allWritten, toldLength}
 use Rattle.rules.proofs.demands.written.Drafts.{draft-meaning}
-use Rattle.rules.proofs.demands.calls.Calls.{length-told, front-long, front-is, accepted}
+use Rattle.rules.proofs.demands.calls.Calls.{length-told, front-long, front-is, accepted-draft}
 use Rattle.rules.proofs.demands.numbering.Numbering.{command-number, draft-number}
 
 -- ---- refusals
@@ -61,12 +61,12 @@ module _ (d : Draft) (out : List ℕ) (zero : writing d out .verdict .number ≡
   front-octets = front-is d out ∙ rw passed
 
   pub front-accepted : commandVerdict (front d out) .number ≡ 0
-  front-accepted = command-number (front d out) .1 (rw front-octets (accepted d (length out) passed .pass))
+  front-accepted = command-number (front d out) .1 (rw front-octets (accepted-draft d (length out) passed .pass))
 
   -- and they have the draft's meaning
   pub front-means : meaningOf (front d out) ≡ draftMeaning d
   front-means =
-      let a = accepted d (length out) passed in
+      let a = accepted-draft d (length out) passed in
       ap meaningOf front-octets ∙ draft-meaning d (a .form) (a .long) (a .pass)
 
 -- ---- lists of calls

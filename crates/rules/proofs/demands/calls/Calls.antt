@@ -33,15 +33,15 @@ use Rattle.rules.proofs.demands.numbering.Numbering.{draft-number}
 -- ---- one call
 
 -- an accepted draft: none of 7006, 7001, 7004, and the reader accepts its octets
-pub record Accepted (d : Draft) (room : ℕ) : Type 0 where
+pub record AcceptedDraft (d : Draft) (room : ℕ) : Type 0 where
   pub form : isWellFormed d ≡ true
   pub long : length (draftOctets d) ≤ longestCommand
   pub fits : length (draftOctets d) ≤ room
   pub pass : commandOutcome (draftOctets d) ≡ Pass
 
-pub accepted : (d : Draft) (room : ℕ) → draftOutcome d room ≡ Pass → Accepted d room
+pub accepted-draft : (d : Draft) (room : ℕ) → draftOutcome d room ≡ Pass → AcceptedDraft d room
 unfolding draftOutcome ownOutcome
-accepted d room e =
+accepted-draft d room e =
     let both = both-pass (ownOutcome d room) (commandOutcome (draftOctets d)) e in
     let form = not-refused (not (isWellFormed d)) _ _ (both .0) in
     let long = not-refused (ltb longestCommand (length (draftOctets d))) _ _ (form .1) in
@@ -56,7 +56,7 @@ accepted d room e =
 -- what is written fits the room
 written-fits : (d : Draft) (room : ℕ) (o : Outcome) → draftOutcome d room ≡ o
     → length (octetsBy o (draftOctets d)) ≤ room
-written-fits d room Pass e = accepted d room e .fits
+written-fits d room Pass e = accepted-draft d room e .fits
 written-fits d room (Refused v) e = omega arith
 
 pub room-enough : (d : Draft) (room : ℕ) → length (octetsWritten d room) ≤ room
@@ -99,7 +99,7 @@ pub record Readable (m : Meaning) : Type 0 where
   pub back : meaningOf (commandOctets m) ≡ m
   pub cut : lengthField (commandOctets m) ≡ length (commandOctets m)
 
-readable : (d : Draft) (room : ℕ) → Accepted d room → Readable (draftMeaning d)
+readable : (d : Draft) (room : ℕ) → AcceptedDraft d room → Readable (draftMeaning d)
 readable d room a = record {
   back = draft-meaning d (a .form) (a .long) (a .pass);
   cut = head-written (draftMeaning d) (draft-writable d (a .form) (a .long)) .length-is;
@@ -162,7 +162,7 @@ unfolding octetsWritten
 one-call d out x ds t =
     by-outcome (draftOutcome d (length out))
     (λ e. rw (one-accepted d out e, front-is d out, e)
-    (rw (t .0), (readable d (length out) (accepted d (length out) e), t .1)))
+    (rw (t .0), (readable d (length out) (accepted-draft d (length out) e), t .1)))
     (λ v e. rw (none-accepted d out e, front-is d out, e) t)
 
 calls : (ds : List Draft) (out : List ℕ) → Told (allWritten ds out) (map draftMeaning (acceptedDrafts ds out))

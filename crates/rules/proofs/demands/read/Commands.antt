@@ -19,7 +19,7 @@ use Rattle.rules.proofs.demands.written.Cells.{cells-of, within}
 use Rattle.rules.proofs.demands.written.Read.{full}
 use Rattle.rules.proofs.demands.read.Soundness.{sound}
 
-pub record Accepted (c : List ℕ) : Type 0 where
+pub record AcceptedItems (c : List ℕ) : Type 0 where
   pub header : Headed c
   pub items : List Item
   pub listed : Listed dictionary 1 items
@@ -30,9 +30,9 @@ pub record Accepted (c : List ℕ) : Type 0 where
   pub few : length items ≤ 256
   pub lists : listsOutcome c (avpsAt 20 items) ≡ Pass
 
-pub accepted : (c : List ℕ) → AreOctets c → commandOutcome c ≡ Pass → Accepted c
+pub accepted-items : (c : List ℕ) → AreOctets c → commandOutcome c ≡ Pass → AcceptedItems c
 unfolding walkOf
-accepted c oct e =
+accepted-items c oct e =
     let w = passed-command c e in
     let h = headed c (w .header) in
     let enough = h .enough in
@@ -59,7 +59,7 @@ accepted c oct e =
 
 -- ---- its meaning
 
-module _ (c : List ℕ) (k : Accepted c) where
+module _ (c : List ℕ) (k : AcceptedItems c) where
   pub avps-are : avpsOf (walkOf c) ≡ avpsAt 20 (k .items)
   avps-are = ap avpsOf (k .walk-is)
 
