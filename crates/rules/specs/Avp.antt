@@ -1,7 +1,7 @@
 -- 01, AVP: the fields of the AVP at a place.
 use Prim.Native.Nat.{ℕ, _+_, _-_}
 use mathlib.Core.List.{List}
-use mathlib.Core.Bool.{Bool, true, false, cond, _&&_}
+use mathlib.Core.Bool.{Bool, cond, not, _&&_}
 use lib.ListN.{getD}
 use lib.Dec.{eqb}
 use Rattle.rules.specs.declared.Avp.{Avp}
@@ -55,9 +55,13 @@ avpAt s at depth = record {
 abbrev pub named : Avp → ℕ → ℕ → Bool
 named a vendor code = eqb (a .vendor) vendor && eqb (a .code) code
 
--- the first octet of an AVP of the walk, whose V is set exactly where its vendor is not 0
+-- V is set exactly where the vendor is not 0: in every AVP of a walk by check 3, and in what the writer writes
+abbrev pub hasV : ℕ → Bool
+hasV vendor = not (eqb vendor 0)
+
+-- the first octet of an AVP of the walk
 abbrev pub placeOf : Avp → ℕ
-placeOf a = a .start - cond (eqb (a .vendor) 0) (headerOf false) (headerOf true)
+placeOf a = a .start - headerOf (hasV (a .vendor))
 
 -- the end of an AVP's data, which for a group is the end of its list
 abbrev pub endOf : Avp → ℕ

@@ -5,8 +5,8 @@ use mathlib.Core.Path.{_≡_}
 use Prim.Native.Nat.{ℕ, _+_}
 use mathlib.Core.List.{List, [], _∷_, _++_}
 use mathlib.Core.Bool.{cond}
-use lib.Dec.{eqb}
 use lib.ListN.{take, drop}
+use Rattle.rules.specs.Verdict.{isAccepted}
 use Rattle.rules.specs.Draft.{Draft, draftMeaning}
 use Rattle.rules.specs.Writer.{writing, outputAfter}
 
@@ -33,9 +33,9 @@ unfoldable pub toldLength : List Draft → List ℕ → ℕ
 toldLength [] out = 0
 toldLength (d ∷ ds) out = writing d out .length + toldLength ds (rest d out)
 
--- a draft, where its call came back with the number 0
+-- a draft, where its call was accepted
 abbrev pub ifAccepted : Draft → List ℕ → List Draft
-ifAccepted d out = cond (eqb (writing d out .verdict .number) 0) (d ∷ []) []
+ifAccepted d out = cond (isAccepted (writing d out .verdict)) (d ∷ []) []
 
 -- the accepted drafts, in order
 unfoldable pub acceptedDrafts : List Draft → List ℕ → List Draft

@@ -4,18 +4,18 @@
 use mathlib.Core.Path.{_≡_}
 use mathlib.Core.Bool.{true}
 use Prim.Native.Nat.{ℕ}
-use mathlib.Core.List.{List, _∷_, _++_}
-use lib.ListN.{length, take, drop}
+use mathlib.Core.List.{List, _∷_}
+use lib.ListN.{length, take}
 use lib.Dec.{ltb}
 use Rattle.rules.specs.declared.Written.{Written}
 use Rattle.rules.specs.declared.Outcome.{Outcome}
 use Rattle.rules.specs.declared.Outcome.the-variants.{Pass}
-use Rattle.rules.specs.Verdict.{writerNumbers, isAmong, verdict, refused, refuseIf, orElse, verdictOf}
+use Rattle.rules.specs.Verdict.{Accepted, writerNumbers, isAmong, verdict, refused, refuseIf, orElse}
 use Rattle.rules.specs.Command.{commandOutcome, commandVerdict}
 use Rattle.rules.specs.Meaning.{meaningOf}
 use Rattle.rules.specs.Wire.{commandOctets}
 use Rattle.rules.specs.Draft.{ownDraft}
-use Rattle.rules.specs.Writer.{octetsBy, writing, outputAfter}
+use Rattle.rules.specs.Writer.{octetsBy, answerBy, writtenOver, writing, outputAfter}
 use Rattle.rules.specs.Demands.{AcceptedCommand}
 
 -- the one canonical form of a command: padding and reserved bits are 0
@@ -31,16 +31,13 @@ canonicalOutcome s room =
 unfoldable pub canonicalWritten : List ℕ → ℕ → List ℕ
 canonicalWritten s room = octetsBy (canonicalOutcome s room) (canonicalOctets s)
 
--- the answer of a call: the verdict and the written length, 0 with a refusal
+-- the answer of a call
 unfoldable pub canonical : List ℕ → List ℕ → Written
-canonical s out = record {
-  verdict = verdictOf (canonicalOutcome s (length out));
-  length = length (canonicalWritten s (length out));
-}
+canonical s out = answerBy (canonicalOutcome s (length out)) (canonicalWritten s (length out))
 
--- the output after a call: octets past the written length are untouched, and after a refusal all
+-- the output after a call
 unfoldable pub canonicalOutput : List ℕ → List ℕ → List ℕ
-canonicalOutput s out = canonicalWritten s (length out) ++ drop (length (canonicalWritten s (length out))) out
+canonicalOutput s out = writtenOver (canonicalWritten s (length out)) out
 
 -- what a call wrote: of its output as it stands afterwards, as much as its answer says
 abbrev pub canonicalFront : List ℕ → List ℕ → List ℕ
@@ -56,9 +53,9 @@ pub record HasForm (c : List ℕ) : Type 0 where
   pub long : length (canonicalOctets c) ≡ length c
   pub again : canonicalOctets (canonicalOctets c) ≡ canonicalOctets c
 
--- accepted (01, What comes back: the number 0)
+-- an accepted call
 abbrev pub AcceptedCanonical : List ℕ → List ℕ → Type 0
-AcceptedCanonical c out = canonical c out .verdict .number ≡ 0
+AcceptedCanonical c out = Accepted (canonical c out .verdict)
 
 -- a call answers and leaves what the writer does for the command's own record over its octets
 pub record OwnWritten (c out : List ℕ) : Type 0 where

@@ -4,18 +4,19 @@ use mathlib.Core.Path.{_≡_}
 use Prim.Native.Nat.{ℕ}
 use mathlib.Core.List.{List, _++_}
 use lib.ListN.{length, drop}
+use Rattle.rules.specs.Verdict.{Accepted}
 use Rattle.rules.specs.Command.{commandVerdict}
 use Rattle.rules.specs.Meaning.{meaningOf}
 use Rattle.rules.specs.Draft.{Draft, ownDraft, draftMeaning}
 use Rattle.rules.specs.Writer.{writing, outputAfter}
 use Rattle.rules.specs.Calls.{front, rest, allWritten, outputAfterAll, toldLength}
 
--- 01, What comes back: accepted is the number 0
+-- an accepted command, and an accepted call
 abbrev pub AcceptedCommand : List ℕ → Type 0
-AcceptedCommand c = commandVerdict c .number ≡ 0
+AcceptedCommand c = Accepted (commandVerdict c)
 
 abbrev pub AcceptedWrite : Draft → List ℕ → Type 0
-AcceptedWrite d out = writing d out .verdict .number ≡ 0
+AcceptedWrite d out = Accepted (writing d out .verdict)
 
 -- what a refused call leaves behind: the output, a length of 0, and the same part for the next call
 pub record Unaltered (d : Draft) (out : List ℕ) : Type 0 where

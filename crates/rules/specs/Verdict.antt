@@ -50,6 +50,13 @@ abbrev pub orElse : Outcome → Outcome → Outcome
 orElse Pass o = o
 orElse (Refused v) o = Refused v
 
+-- accepted is the number 0, as a test and as a claim
+abbrev pub isAccepted : Verdict → Bool
+isAccepted v = eqb (v .number) 0
+
+abbrev pub Accepted : Verdict → Type 0
+Accepted v = v .number ≡ 0
+
 -- accepted: number, place, vendor and code 0
 abbrev pub verdictOf : Outcome → Verdict
 verdictOf Pass = verdict 0 0 0 0

@@ -2,17 +2,16 @@
 -- 0; padding and reserved bits are 0.
 use Prim.Native.Nat.{ℕ, _+_, _-_}
 use mathlib.Core.List.{List, [], _∷_, _++_}
-use mathlib.Core.Bool.{Bool, cond, not}
+use mathlib.Core.Bool.{Bool, cond}
 use lib.ListN.{length, replicate}
-use lib.Dec.{eqb}
 use Rattle.rules.specs.Octets.{octets, padded}
 use Rattle.rules.specs.Header.{headerSize, applicationNt, codeBackgroundDataTransfer}
-use Rattle.rules.specs.Avp.{headerOf}
+use Rattle.rules.specs.Avp.{headerOf, hasV}
 use Rattle.rules.specs.Meaning.{Cell, Meaning}
 
 -- V is set exactly when the vendor is not 0
 abbrev pub hasVendor : Cell → Bool
-hasVendor c = not (eqb (c .vendor) 0)
+hasVendor c = hasV (c .vendor)
 
 -- the AVP flags from the top: V, M, P; reserved bits are 0
 unfoldable pub avpFlags : Cell → ℕ

@@ -37,14 +37,18 @@ octetsBy (Refused v) s = []
 unfoldable pub octetsWritten : Draft → ℕ → List ℕ
 octetsWritten d room = octetsBy (draftOutcome d room) (draftOctets d)
 
--- the answer of a call: the verdict and the written length, 0 with a refusal
-unfoldable pub writing : Draft → List ℕ → Written
-writing d out = record {
-  verdict = verdictOf (draftOutcome d (length out));
-  length = length (octetsWritten d (length out));
-}
+-- what a call answers that wrote these octets: the verdict and their number, 0 with a refusal
+abbrev pub answerBy : Outcome → List ℕ → Written
+answerBy o xs = record { verdict = verdictOf o; length = length xs }
 
--- the output after a call: octets past the written length are untouched, and after a refusal all
+-- an output with these octets at its start: those past them are untouched
+abbrev pub writtenOver : List ℕ → List ℕ → List ℕ
+writtenOver xs out = xs ++ drop (length xs) out
+
+-- the answer of a call
+unfoldable pub writing : Draft → List ℕ → Written
+writing d out = answerBy (draftOutcome d (length out)) (octetsWritten d (length out))
+
+-- the output after a call; after a refusal it is as it was
 unfoldable pub outputAfter : Draft → List ℕ → List ℕ
-outputAfter d out =
-    octetsWritten d (length out) ++ drop (length (octetsWritten d (length out))) out
+outputAfter d out = writtenOver (octetsWritten d (length out)) out

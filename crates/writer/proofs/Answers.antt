@@ -17,20 +17,20 @@ use Rattle.rules.specs.Verdict.{verdict, orElse}
 use Rattle.rules.specs.Header.{longestCommand}
 use Rattle.rules.specs.Command.{commandOutcome}
 use Rattle.rules.specs.Draft.{Draft, isWellFormed}
-use Rattle.rules.specs.Writer.{draftOctets, draftOutcome, octetsWritten, writing, outputAfter, ownOutcome}
+use Rattle.rules.specs.Writer.{draftOctets, draftOutcome, octetsWritten, answerBy, writing, outputAfter, ownOutcome}
 use Rattle.rules.proofs.Walk.{by-cases, never}
 use Rattle.encoding.specs.Encoding.{encodedOctets}
-use Rattle.writer.specs.Promise.{IsWritten, CanWrite, answerBy, IsJudged}
+use Rattle.writer.specs.Promise.{IsWritten, CanWrite, WrittenIfAccepted}
 
 -- ---- octets, judged
 
 module _ (xs out : List ℕ) (o : Outcome) (is : o ≡ commandOutcome xs) where
-  pub judged-refused : {v : Verdict} → o ≡ Refused v → (w : Written) → w ≡ answerBy (Refused v) [] → IsJudged xs out w out
+  pub judged-refused : {v : Verdict} → o ≡ Refused v → (w : Written) → w ≡ answerBy (Refused v) [] → WrittenIfAccepted xs out w out
   judged-refused e w r = record { answer = r ∙ rw (← is, e); left = rw (← is, e) }
 
   pub judged-accepted : o ≡ Pass → (size : ℕ) → size ≡ length xs → size ≤ length out
       → (v : Verdict) → v ≡ verdict 0 0 0 0 → (after : List ℕ) → after ≡ sets out 0 xs
-      → IsJudged xs out (record { verdict = v; length = size }) after
+      → WrittenIfAccepted xs out (record { verdict = v; length = size }) after
   judged-accepted e size z k v w after a =
       let fits : 0 + length xs ≤ length out = omega arith in
       record {
@@ -97,7 +97,7 @@ module _ (d : Draft) (out : List ℕ) where
         let xs = encodedOctets d (length out) in
         ap (take size) left ∙ take-at xs (drop (length xs) blank) size (sym is) ∙ octets-own d (length out) own
 
-    pub written-judged : (w : Written) (after : List ℕ) → IsJudged (take size command) out w after → IsWritten d out w after
+    pub written-judged : (w : Written) (after : List ℕ) → WrittenIfAccepted (take size command) out w after → IsWritten d out w after
     unfolding writing octetsWritten outputAfter
     written-judged w after j =
         let e = outcome-own d (length out) ∙ ap (λ (x : Outcome). orElse x (commandOutcome (draftOctets d))) own in

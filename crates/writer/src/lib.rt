@@ -5,8 +5,9 @@ ghost use mathlib.Core.List.{[]};
 ghost use lib.ListN.{length, take};
 ghost use Rattle.rules.specs.Header.{longestCommand};
 ghost use Rattle.rules.specs.Draft.{draftOf};
+ghost use Rattle.rules.specs.Writer.{answerBy};
 ghost use Rattle.numbers.specs.Draft.{numberedDraft};
-ghost use Rattle.writer.specs.Promise.{answerBy, CanWrite, IsJudged, IsWritten};
+ghost use Rattle.writer.specs.Promise.{CanWrite, WrittenIfAccepted, IsWritten};
 use rules::Outcome;
 use rules::Record;
 use rules::Verdict;
@@ -33,7 +34,7 @@ fn refused(v: Verdict) -> Written
 // A command of this size at the start of some octets, judged and, where it is accepted, copied out.
 fn write_command(command: &[u8], size: usize, out: &mut [u8]) -> Written
     requires { ⌜ CanWrite (now command) size (now out) ⌝ }
-    ensures { λ r. ⌜ IsJudged (take size (now (command .entry))) (now (out .entry)) r (now (out .exit)) ⌝ }
+    ensures { λ r. ⌜ WrittenIfAccepted (take size (now (command .entry))) (now (out .entry)) r (now (out .exit)) ⌝ }
 {
     let mut log = [0u32; limits::LOG_NUMBERS];
     let outcome = reader::outcome(&command[..size], &mut log);
