@@ -8,6 +8,8 @@ use lib.ListN.{length, take, drop}
 use lib.Dec.{ltb, leb, eqb}
 use Rattle.rules.specs.declared.Verdict.{Verdict}
 use Rattle.rules.specs.Octets.{numberAt}
+use Rattle.rules.specs.Text.{text}
+use Rattle.rules.specs.Verdict.{isAccepted}
 use Rattle.rules.specs.Header.{headerSize}
 use Rattle.rules.specs.Command.{commandVerdict}
 
@@ -32,21 +34,20 @@ abbrev pub spaced : List ℕ → List ℕ
 spaced [] = []
 spaced (n ∷ ns) = space ∷ decimal n ++ spaced ns
 
--- the line "NTB 1"
+-- the first line
 abbrev pub headLine : List ℕ
-headLine = 78 ∷ 84 ∷ 66 ∷ 32 ∷ 49 ∷ newline ∷ []
+headLine = text "NTB 1\n"
 
--- the word "end"
+-- the words of the last line
 abbrev pub endWord : List ℕ
-endWord = 101 ∷ 110 ∷ 100 ∷ []
+endWord = text "end"
 
--- the word "cut"
 abbrev pub cutWord : List ℕ
-cutWord = 99 ∷ 117 ∷ 116 ∷ []
+cutWord = text "cut"
 
--- the line "not a book"
+-- the only line of what is no book
 abbrev pub notABook : List ℕ
-notABook = 110 ∷ 111 ∷ 116 ∷ 32 ∷ 97 ∷ 32 ∷ 98 ∷ 111 ∷ 111 ∷ 107 ∷ newline ∷ []
+notABook = text "not a book\n"
 
 -- ordinal, offset, number, place, vendor, code
 abbrev pub commandLine : ℕ → ℕ → Verdict → List ℕ
@@ -75,7 +76,7 @@ commandIn s at = take (lengthOf s at) (drop at s)
 
 -- 1 where a command is accepted
 abbrev pub acceptance : Verdict → ℕ
-acceptance v = cond (eqb (v .number) 0) 1 0
+acceptance v = cond (isAccepted v) 1 0
 
 -- the lines from an offset on, after this many commands and acceptances. The first argument bounds the lines; as many
 -- as there are octets left are enough (proofs/Steps)
@@ -152,4 +153,4 @@ commandLines ordinal offset (c ∷ cs) =
 -- how many of them are accepted
 abbrev pub acceptedOf : List (List ℕ) → ℕ
 acceptedOf [] = 0
-acceptedOf (c ∷ cs) = cond (eqb (commandVerdict c .number) 0) 1 0 + acceptedOf cs
+acceptedOf (c ∷ cs) = acceptance (commandVerdict c) + acceptedOf cs

@@ -3,10 +3,12 @@
 -- definitions. Numbers stand as 01 prints them.
 use mathlib.Core.Path.{_≡_, refl}
 use Prim.Native.Nat.{ℕ}
+use Prim.Native.String.{String}
 use mathlib.Core.List.{List, [], _∷_, _++_, map}
 use lib.ListN.{take, replicate}
 use Rattle.rules.specs.declared.Verdict.{Verdict}
 use Rattle.rules.specs.Octets.{numberAt, padded, octets}
+use Rattle.rules.specs.Text.{text}
 use Rattle.rules.specs.Verdict.{verdict}
 use Rattle.rules.specs.Header.{applicationNt, codeBackgroundDataTransfer, vendor3GPP, lengthOutcome, applicationOutcome, flagsOutcome, headerOutcome}
 use Rattle.rules.specs.Avp.{avpAt}
@@ -28,11 +30,11 @@ header version length flags application =
 unfoldable pub h : List ℕ
 h = header 1 20 0xC0 applicationNt
 
-abbrev pub request : ℕ → List ℕ
-request length = header 1 length 0xC0 applicationNt
+abbrev pub requestHeader : ℕ → List ℕ
+requestHeader length = header 1 length 0xC0 applicationNt
 
-abbrev pub answer : ℕ → List ℕ
-answer length = header 1 length 0x40 applicationNt
+abbrev pub answerHeader : ℕ → List ℕ
+answerHeader length = header 1 length 0x40 applicationNt
 
 -- an AVP without vendor: its code, flags and length field, and the octets behind its header, padding included
 unfoldable pub avp : ℕ → ℕ → ℕ → List ℕ → List ℕ
@@ -43,18 +45,18 @@ unfoldable pub avpOf3GPP : ℕ → ℕ → ℕ → List ℕ → List ℕ
 avpOf3GPP code flags length behind = octets 4 code ++ (flags ∷ octets 3 length) ++ octets 4 vendor3GPP ++ behind
 
 -- a string of one octet, with its padding
-abbrev pub text : ℕ → List ℕ
-text octet = octet ∷ 0 ∷ 0 ∷ 0 ∷ []
+abbrev pub letter : ℕ → List ℕ
+letter octet = octet ∷ 0 ∷ 0 ∷ 0 ∷ []
 
 -- the AVPs with which S begins: 263, 260 with what it holds, 277, 264, 296, 283
 unfoldable pub sBegins : List ℕ → ℕ → List ℕ
 sBegins members length =
-    avp 263 0x40 9 (text 0x73)
+    avp 263 0x40 9 (letter 0x73)
     ++ avp 260 0x40 length members
     ++ avp 277 0x40 12 (octets 4 1)
-    ++ avp 264 0x40 9 (text 0x68)
-    ++ avp 296 0x40 9 (text 0x72)
-    ++ avp 283 0x40 9 (text 0x64)
+    ++ avp 264 0x40 9 (letter 0x68)
+    ++ avp 296 0x40 9 (letter 0x72)
+    ++ avp 283 0x40 9 (letter 0x64)
 
 -- 260's one required member
 unfoldable pub vendorId : List ℕ
@@ -63,7 +65,7 @@ vendorId = avp 266 0x40 12 (octets 4 vendor3GPP)
 -- with which S goes on: 4203 of this value, 293, 4202
 unfoldable pub sGoesOn : ℕ → List ℕ
 sGoesOn type =
-    avpOf3GPP 4203 0xC0 16 (octets 4 type) ++ avp 293 0x40 9 (text 0x65) ++ avpOf3GPP 4202 0xC0 13 (text 0x66)
+    avpOf3GPP 4203 0xC0 16 (octets 4 type) ++ avp 293 0x40 9 (letter 0x65) ++ avpOf3GPP 4202 0xC0 13 (letter 0x66)
 
 -- and ends: 4208, at 144
 unfoldable pub sEnds : List ℕ
@@ -74,7 +76,7 @@ unfoldable pub sFront : List ℕ
 sFront = sBegins vendorId 20 ++ sGoesOn 1
 
 unfoldable pub s : List ℕ
-s = request 160 ++ sFront ++ sEnds
+s = requestHeader 160 ++ sFront ++ sEnds
 
 -- octets and the answer that they have
 pub record Case : Type 0 where
@@ -95,21 +97,21 @@ cases =
     ∷ case (header 1 20 0xC0 16777346) 3007 8 0 0
     ∷ case (header 1 20 0xE0 applicationNt) 3008 4 0 0
     ∷ case (header 1 20 0x60 applicationNt) 7005 4 0 0
-    ∷ case (request 28 ++ avp 263 0x40 7 []) 5014 20 0 263
-    ∷ case (request 28 ++ avp 263 0x41 8 []) 3009 20 0 263
-    ∷ case (request 28 ++ avp 9999 0x40 8 []) 5001 20 0 9999
-    ∷ case (request 28 ++ avp 9999 0x00 8 []) 5005 28 0 263
+    ∷ case (requestHeader 28 ++ avp 263 0x40 7 []) 5014 20 0 263
+    ∷ case (requestHeader 28 ++ avp 263 0x41 8 []) 3009 20 0 263
+    ∷ case (requestHeader 28 ++ avp 9999 0x40 8 []) 5001 20 0 9999
+    ∷ case (requestHeader 28 ++ avp 9999 0x00 8 []) 5005 28 0 263
     ∷ case s 0 0 0 0
-    ∷ case (request 144 ++ sFront) 5005 144 vendor3GPP 4208
+    ∷ case (requestHeader 144 ++ sFront) 5005 144 vendor3GPP 4208
     ∷ []
 
 -- a first request, 4203 = 0: 532, 414, 4209, and a window from 10 to this time
 unfoldable pub firstRequestTo : ℕ → List ℕ
 firstRequestTo end =
-    request 208
+    requestHeader 208
     ++ sBegins vendorId 20
     ++ avpOf3GPP 4203 0xC0 16 (octets 4 0)
-    ++ avpOf3GPP 532 0x80 13 (text 0x61)
+    ++ avpOf3GPP 532 0x80 13 (letter 0x61)
     ++ avp 414 0x40 16 (octets 8 1000)
     ++ avpOf3GPP 4209 0xC0 16 (octets 4 3)
     ++ avpOf3GPP 4204 0xC0 44 (avpOf3GPP 4206 0xC0 16 (octets 4 10) ++ avpOf3GPP 4205 0xC0 16 (octets 4 end))
@@ -117,28 +119,28 @@ firstRequestTo end =
 -- the AVPs of an answer before its result
 unfoldable pub answerBegins : List ℕ
 answerBegins =
-    avp 263 0x40 9 (text 0x73)
+    avp 263 0x40 9 (letter 0x73)
     ++ avp 260 0x40 20 vendorId
     ++ avp 277 0x40 12 (octets 4 1)
-    ++ avp 264 0x40 9 (text 0x68)
-    ++ avp 296 0x40 9 (text 0x72)
+    ++ avp 264 0x40 9 (letter 0x68)
+    ++ avp 296 0x40 9 (letter 0x72)
 
 -- further cases: 01's S with 4203 = 2 and its windows; an accepted first request and an accepted answer; an answer without
 -- a result and one with both; rows missing, not admitted and exceeded, in the command's own list and in a group
 unfoldable pub further : List Case
 further =
-    case (request 160 ++ sBegins vendorId 20 ++ sGoesOn 2 ++ sEnds) 5004 100 vendor3GPP 4203
+    case (requestHeader 160 ++ sBegins vendorId 20 ++ sGoesOn 2 ++ sEnds) 5004 100 vendor3GPP 4203
     ∷ case (firstRequestTo 11) 0 0 0 0
     ∷ case (firstRequestTo 10) 5004 192 vendor3GPP 4205
-    ∷ case (answer 100 ++ answerBegins ++ avp 268 0x40 12 (octets 4 2001)) 0 0 0 0
-    ∷ case (answer 88 ++ answerBegins) 5005 88 0 268
-    ∷ case (answer 132 ++ answerBegins ++ avp 268 0x40 12 (octets 4 2001)
+    ∷ case (answerHeader 100 ++ answerBegins ++ avp 268 0x40 12 (octets 4 2001)) 0 0 0 0
+    ∷ case (answerHeader 88 ++ answerBegins) 5005 88 0 268
+    ∷ case (answerHeader 132 ++ answerBegins ++ avp 268 0x40 12 (octets 4 2001)
     ++ avp 297 0x40 32 (vendorId ++ avp 298 0x40 12 (octets 4 1))) 5008 100 0 297
-    ∷ case (request 148 ++ sBegins [] 8 ++ sGoesOn 1 ++ sEnds) 5005 40 0 266
-    ∷ case (request 172 ++ sBegins (vendorId ++ avp 263 0x40 9 (text 0x73)) 32 ++ sGoesOn 1 ++ sEnds) 5008 52 0 263
-    ∷ case (request 172 ++ sBegins (vendorId ++ vendorId) 32 ++ sGoesOn 1 ++ sEnds) 5009 52 0 266
-    ∷ case (request 44 ++ avp 264 0x40 9 (text 0x68) ++ avp 263 0x40 9 (text 0x73)) 5008 32 0 263
-    ∷ case (request 172 ++ sFront ++ sEnds ++ avp 264 0x40 9 (text 0x68)) 5009 160 0 264
+    ∷ case (requestHeader 148 ++ sBegins [] 8 ++ sGoesOn 1 ++ sEnds) 5005 40 0 266
+    ∷ case (requestHeader 172 ++ sBegins (vendorId ++ avp 263 0x40 9 (letter 0x73)) 32 ++ sGoesOn 1 ++ sEnds) 5008 52 0 263
+    ∷ case (requestHeader 172 ++ sBegins (vendorId ++ vendorId) 32 ++ sGoesOn 1 ++ sEnds) 5009 52 0 266
+    ∷ case (requestHeader 44 ++ avp 264 0x40 9 (letter 0x68) ++ avp 263 0x40 9 (letter 0x73)) 5008 32 0 263
+    ∷ case (requestHeader 172 ++ sFront ++ sEnds ++ avp 264 0x40 9 (letter 0x68)) 5009 160 0 264
     ∷ []
 
 -- the answers that cases have, and those that the definitions give
@@ -148,80 +150,58 @@ answers cs = map (λ c. c .answer) cs
 unfoldable pub verdicts : List Case → List Verdict
 verdicts cs = map (λ c. commandVerdict (c .octets)) cs
 
--- the book that 01 works out
-unfoldable pub book : List ℕ
-book = 0x4E ∷ 0x54 ∷ 0x42 ∷ 0x00 ∷ 0x01 ∷ h
-
--- its listing: "NTB 1", "1 5 5005 20 0 263", "end 1 0"
-unfoldable pub bookListing : List ℕ
-bookListing =
-    78 ∷ 84 ∷ 66 ∷ 32 ∷ 49 ∷ 10 ∷
-    49 ∷ 32 ∷ 53 ∷ 32 ∷ 53 ∷ 48 ∷ 48 ∷ 53 ∷ 32 ∷ 50 ∷ 48 ∷ 32 ∷ 48 ∷ 32 ∷ 50 ∷ 54 ∷ 51 ∷ 10 ∷
-    101 ∷ 110 ∷ 100 ∷ 32 ∷ 49 ∷ 32 ∷ 48 ∷ 10 ∷ []
-
 -- the head of a book: the letters NTB and the version 1
 unfoldable pub headOfBook : List ℕ
-headOfBook = 0x4E ∷ 0x54 ∷ 0x42 ∷ 0x00 ∷ 0x01 ∷ []
+headOfBook = text "NTB" ++ (0 ∷ 1 ∷ [])
+
+-- the book that 01 works out
+unfoldable pub book : List ℕ
+book = headOfBook ++ h
+
+-- its listing, whole
+unfoldable pub bookListing : List ℕ
+bookListing = text "NTB 1\n1 5 5005 20 0 263\nend 1 0\n"
 
 -- a book and the listing that it has
 pub record BookCase : Type 0 where
   pub octets : List ℕ
-  pub text : List ℕ
+  pub printed : List ℕ
 
-unfoldable pub bookCase : List ℕ → List ℕ → BookCase
-bookCase octets text = record { octets = octets; text = text }
-
--- the lines that their listings share: "NTB 1"; then "1 5 0 0 0 0", of S; then "2 165 cut"; and "not a book"
-unfoldable pub printedHead : List ℕ
-printedHead = 78 ∷ 84 ∷ 66 ∷ 32 ∷ 49 ∷ 10 ∷ []
-
-unfoldable pub printedS : List ℕ
-printedS = printedHead ++ (49 ∷ 32 ∷ 53 ∷ 32 ∷ 48 ∷ 32 ∷ 48 ∷ 32 ∷ 48 ∷ 32 ∷ 48 ∷ 10 ∷ [])
-
-unfoldable pub printedCut : List ℕ
-printedCut = printedS ++ (50 ∷ 32 ∷ 49 ∷ 54 ∷ 53 ∷ 32 ∷ 99 ∷ 117 ∷ 116 ∷ 10 ∷ [])
-
-unfoldable pub printedNoBook : List ℕ
-printedNoBook = 110 ∷ 111 ∷ 116 ∷ 32 ∷ 97 ∷ 32 ∷ 98 ∷ 111 ∷ 111 ∷ 107 ∷ 10 ∷ []
+unfoldable pub bookCase : List ℕ → String → BookCase
+bookCase octets printed = record { octets = octets; printed = text printed }
 
 -- further books
 unfoldable pub furtherBooks : List BookCase
 furtherBooks =
-    -- S and then H: two commands, one accepted: "NTB 1", "1 5 0 0 0 0", "2 165 5005 20 0 263", "end 2 1"
-    bookCase (headOfBook ++ s ++ h) (printedS ++ (
-    50 ∷ 32 ∷ 49 ∷ 54 ∷ 53 ∷ 32 ∷ 53 ∷ 48 ∷ 48 ∷ 53 ∷ 32 ∷ 50 ∷ 48 ∷ 32 ∷ 48 ∷ 32 ∷ 50 ∷ 54 ∷ 51 ∷ 10 ∷
-    101 ∷ 110 ∷ 100 ∷ 32 ∷ 50 ∷ 32 ∷ 49 ∷ 10 ∷ []))
-    -- S with three octets behind it: a cut, and no `end`: "NTB 1", "1 5 0 0 0 0", "2 165 cut"
-    ∷ bookCase (headOfBook ++ s ++ (1 ∷ 0 ∷ 0 ∷ [])) printedCut
-    -- S and then H without its last octet: a length past the end: "NTB 1", "1 5 0 0 0 0", "2 165 cut"
-    ∷ bookCase (headOfBook ++ s ++ take 19 h) printedCut
-    -- a length field of 16 with 20 octets left, which no command has: "NTB 1", "1 5 cut"
-    ∷ bookCase (headOfBook ++ header 1 16 0xC0 applicationNt) (printedHead ++ (
-    49 ∷ 32 ∷ 53 ∷ 32 ∷ 99 ∷ 117 ∷ 116 ∷ 10 ∷ []))
-    -- a command of 16,388 octets: refused, and no cut: "NTB 1", "1 5 7001 1 0 0", "end 1 0"
-    ∷ bookCase (headOfBook ++ request 16388 ++ replicate 16368 0) (printedHead ++ (
-    49 ∷ 32 ∷ 53 ∷ 32 ∷ 55 ∷ 48 ∷ 48 ∷ 49 ∷ 32 ∷ 49 ∷ 32 ∷ 48 ∷ 32 ∷ 48 ∷ 10 ∷
-    101 ∷ 110 ∷ 100 ∷ 32 ∷ 49 ∷ 32 ∷ 48 ∷ 10 ∷ []))
-    -- the head alone: "NTB 1", "end 0 0"
-    ∷ bookCase headOfBook (printedHead ++ (
-    101 ∷ 110 ∷ 100 ∷ 32 ∷ 48 ∷ 32 ∷ 48 ∷ 10 ∷ []))
-    -- a head of version 2, and H: "not a book"
-    ∷ bookCase (0x4E ∷ 0x54 ∷ 0x42 ∷ 0x00 ∷ 0x02 ∷ h) printedNoBook
-    -- a head of four octets: "not a book"
-    ∷ bookCase (0x4E ∷ 0x54 ∷ 0x42 ∷ 0x00 ∷ []) printedNoBook
+    -- S and then H: two commands, one accepted
+    bookCase (headOfBook ++ s ++ h) "NTB 1\n1 5 0 0 0 0\n2 165 5005 20 0 263\nend 2 1\n"
+    -- S with three octets behind it: a cut, and no `end`
+    ∷ bookCase (headOfBook ++ s ++ (1 ∷ 0 ∷ 0 ∷ [])) "NTB 1\n1 5 0 0 0 0\n2 165 cut\n"
+    -- S and then H without its last octet: a length past the end
+    ∷ bookCase (headOfBook ++ s ++ take 19 h) "NTB 1\n1 5 0 0 0 0\n2 165 cut\n"
+    -- a length field of 16 with 20 octets left, which no command has
+    ∷ bookCase (headOfBook ++ header 1 16 0xC0 applicationNt) "NTB 1\n1 5 cut\n"
+    -- a command of 16,388 octets: refused, and no cut
+    ∷ bookCase (headOfBook ++ requestHeader 16388 ++ replicate 16368 0) "NTB 1\n1 5 7001 1 0 0\nend 1 0\n"
+    -- the head alone
+    ∷ bookCase headOfBook "NTB 1\nend 0 0\n"
+    -- a head of version 2, and H
+    ∷ bookCase (text "NTB" ++ (0 ∷ 2 ∷ h)) "not a book\n"
+    -- a head of four octets
+    ∷ bookCase (text "NTB" ++ (0 ∷ [])) "not a book\n"
     ∷ []
 
 -- the listings that books have, and those that the definitions give
-unfoldable pub texts : List BookCase → List (List ℕ)
-texts bs = map (λ b. b .text) bs
+unfoldable pub printed : List BookCase → List (List ℕ)
+printed bs = map (λ b. b .printed) bs
 
 unfoldable pub listings : List BookCase → List (List ℕ)
 listings bs = map (λ b. listing (b .octets)) bs
 
 -- all of it, computed
 computed : (verdicts cases ≡ answers cases) × (verdicts further ≡ answers further) × (listing book ≡ bookListing)
-    × (listings furtherBooks ≡ texts furtherBooks)
-unfolding headOfBook printedHead printedS printedCut printedNoBook bookCase furtherBooks texts listings verdicts answers cases case header h avp avpOf3GPP sBegins vendorId sGoesOn sEnds sFront s further firstRequestTo answerBegins book bookListing octets numberAt padded lengthOutcome applicationOutcome flagsOutcome headerOutcome avpAt rowsOf admitsOthers dictionary find framing wrongFlags unsupported wrongWidth wrongValue tooDeep contents checked walkAvp walkList admissionFrom memberOutcome missingFrom membersOutcome membersAt groupsOutcome rowsOutcome firstFrom volume firstRequest laterRequest requestOutcome resultOutcome policiesOutcome policyOutcome eachPolicy answerOutcome windowOutcome eachWindow exchangeOutcome walkOf listsOutcome commandOutcome commandVerdict digits isCut linesFrom isBook listing
+    × (listings furtherBooks ≡ printed furtherBooks)
+unfolding headOfBook bookCase furtherBooks printed listings verdicts answers cases case header h avp avpOf3GPP sBegins vendorId sGoesOn sEnds sFront s further firstRequestTo answerBegins book bookListing octets numberAt padded lengthOutcome applicationOutcome flagsOutcome headerOutcome avpAt rowsOf admitsOthers dictionary find framing wrongFlags unsupported wrongWidth wrongValue tooDeep contents checked walkAvp walkList admissionFrom memberOutcome missingFrom membersOutcome membersAt groupsOutcome rowsOutcome firstFrom volume firstRequest laterRequest requestOutcome resultOutcome policiesOutcome policyOutcome eachPolicy answerOutcome windowOutcome eachWindow exchangeOutcome walkOf listsOutcome commandOutcome commandVerdict digits isCut linesFrom isBook listing
 computed = (refl, refl, refl, refl)
 
 -- each marked case has its answer
@@ -237,5 +217,5 @@ pub worked-book : listing book ≡ bookListing
 worked-book = computed .2
 
 -- and each further book
-pub further-books : listings furtherBooks ≡ texts furtherBooks
+pub further-books : listings furtherBooks ≡ printed furtherBooks
 further-books = computed .3

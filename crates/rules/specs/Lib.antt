@@ -1,7 +1,8 @@
 -- Document 01 as definitions, a file for each of its parts, in its order.
 
--- octets and numbers, on which all rests
+-- octets and numbers, on which all rests, and texts
 pub mod Octets
+pub mod Text
 -- Header; AVP; Dictionary; Rows
 pub mod Header
 pub mod Avp
