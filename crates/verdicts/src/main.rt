@@ -1,34 +1,36 @@
 // Prints the listing of the book on standard input (01, The book and its listing). It only moves octets: what the listing
 // is, the crate `book` settles.
 ghost use lib.ListN.{length};
-ghost use Rattle.verdicts.specs.Input.{Within};
+ghost use Rattle.verdicts.specs.Input.{ReadWhole};
 use libc::STDERR_FILENO;
 use libc::STDIN_FILENO;
 use libc::STDOUT_FILENO;
 
-// What came in: this many octets up to the end of the input or of the buffer, or a read that failed.
+// What came in: this many octets, with how many the last read gave; or a read that failed.
 enum Input {
-    Octets(usize),
+    Octets { count: usize, last: usize },
     Failed,
 }
 
-// Reads until the buffer is full or the input ends, in pieces of any size. A read that a signal broke off counts as failed.
+// Reads until the buffer is full or a read gives nothing, which is the end of the input, in pieces of any size. A read that
+// a signal broke off counts as failed.
 fn read_input(buffer: &mut [u8]) -> Input
-    ensures { λ r. ⌜ Within (length (now (buffer .entry))) r ⌝ }
+    ensures { λ r. ⌜ ReadWhole (length (now (buffer .entry))) r ⌝ }
 {
     let mut count: usize = 0;
+    let mut last: usize = 1;
     while count < buffer.len() {
         let answer = libc::read(STDIN_FILENO, &mut buffer[count..]);
         if answer < 0 {
             return Input::Failed;
         }
-        let more = io::count(answer, &buffer[count..]);
-        if more == 0 {
-            return Input::Octets(count);
+        last = io::count(answer, &buffer[count..]);
+        if last == 0 {
+            return Input::Octets { count, last };
         }
-        count += more;
+        count += last;
     }
-    Input::Octets(count)
+    Input::Octets { count, last }
 }
 
 // A listing that could not be written whole lacks at least the end of its last line, and standard error says so.
@@ -47,7 +49,7 @@ fn main() {
     let mut buffer = [0u8; 65537];
     let input = read_input(&mut buffer);
     match input {
-        Input::Octets(count) => print_listing(&buffer[..count]),
+        Input::Octets { count, last } => print_listing(&buffer[..count]),
         Input::Failed => {
             io::write_all(STDERR_FILENO, b"verdicts: reading failed\n");
         }
