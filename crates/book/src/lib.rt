@@ -1,5 +1,5 @@
-// The listing of a book of captured commands (01, The book and its listing). Text is put piece by piece into octets that
-// the caller lends; each function that puts a piece returns the place behind it.
+// The listing of a book of captured commands (01, The book and its listing). Text is put piece by piece into octets
+// that the caller lends; each function that puts a piece returns the place behind it.
 ghost use mathlib.Core.Path.{_≡_};
 ghost use mathlib.Core.Bool.{false};
 ghost use mathlib.Core.List.{[], _∷_, _++_};

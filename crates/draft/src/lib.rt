@@ -1,5 +1,5 @@
-// 01, The record and the writer, 7006: the tests of a draft whose record is given as numbers, one after the other, and the
-// size of its command. That identifiers, vendors and codes fit four octets is so by their type.
+// 01, The record and the writer, 7006: the tests of a draft whose record is given as numbers, one after the other, and
+// the size of its command. That identifiers, vendors and codes fit four octets is so by their type.
 ghost use mathlib.Core.Path.{_≡_};
 ghost use mathlib.Core.Bool.{_&&_};
 ghost use mathlib.Core.List.{List};

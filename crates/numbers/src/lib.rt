@@ -1,4 +1,5 @@
-// A record as numbers in a lent array: written whole, and read place by place, so that no record is made to read one AVP.
+// A record as numbers in a lent array: written whole, and read place by place, so that no record is made to read one
+// AVP.
 ghost use mathlib.Core.Path.{_≡_};
 ghost use Prim.Native.Nat.{_<_, min};
 ghost use lib.ListN.{length};
