@@ -1,5 +1,5 @@
-//! Reads a command in hex from the command line, gives it the hop-by-hop identifier that stands before it, writes it, and
-//! prints the written command in hex; for a refused command its verdict.
+//! Reads a command in hex from the command line, gives it the hop-by-hop identifier that stands before it, writes it,
+//! and prints the written command in hex; for a refused command its verdict.
 //!
 //! `cargo run --example rewrite -- 7 010000A0C080007301000084 ..`
 
