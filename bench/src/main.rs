@@ -15,7 +15,10 @@ const ROUNDS: usize = 21;
 
 fn main() {
     let seed = std::env::args().nth(1).and_then(|word| word.parse().ok()).unwrap_or(bench::SEED);
-    println!("seed {seed}, {ROUNDS} rounds; ratio of times, proved reader to second reader: median (least to greatest)");
+    println!(
+        "seed {seed}, {ROUNDS} rounds; ratio of times, proved reader to second reader: \
+         median (least to greatest)"
+    );
     for (name, commands) in bench::mixes(seed) {
         let verdicts = rounds(&commands, ours(), |octets| {
             black_box(second_reader::verdict(octets));
