@@ -1,5 +1,5 @@
-// Makes reads and writes of one program fail, for tests/faults. Preloaded; FAULT_EXE names the program's file, so that the
-// shell around it is left alone. A call that is not to fail is the C library's.
+// Makes reads and writes of one program fail, for tests/faults. Preloaded; FAULT_EXE names the program's file, so that
+// the shell around it is left alone. A call that is not to fail is the C library's.
 #define _GNU_SOURCE
 #include <dlfcn.h>
 #include <errno.h>

@@ -1,5 +1,5 @@
-//! One reading many times, for callgrind: `instructions proved|second|record FILE TIMES`. `instructions write DIR` writes the
-//! bench's commands there, one to a file.
+//! One reading many times, for callgrind: `instructions proved|second|record FILE TIMES`. `instructions write DIR`
+//! writes the bench's commands there, one to a file.
 
 use std::hint::black_box;
 

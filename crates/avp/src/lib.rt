@@ -45,8 +45,8 @@ fn name_number(vendor: u32, code: u32) -> u64
     code as u64 * 4294967296 + vendor as u64
 }
 
-// Whether a vendor and a code are `other` and `another`. They are compared as one number each, since in a search one test that seldom holds is faster
-// than two of which one often does.
+// Whether a vendor and a code are `other` and `another`. They are compared as one number each, since in a search one
+// test that seldom holds is faster than two of which one often does.
 pub fn is_same_name(vendor: u32, code: u32, other: u32, another: u32) -> bool
     ensures { λ r. ⌜ r ≡ (eqb vendor other && eqb code another) ⌝ }
 {

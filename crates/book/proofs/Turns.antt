@@ -48,8 +48,8 @@ acceptance-small v = one-or-none (eqb (v .number) 0)
 
 -- ---- before each command
 
--- `at` in the octets and `offset` in the book, after this many commands and acceptances: what is put from here on as the
--- lines that are left makes the listing whole. A line is shorter than three and a half times its command.
+-- `at` in the octets and `offset` in the book, after this many commands and acceptances: what is put from here on as
+-- the lines that are left makes the listing whole. A line is shorter than three and a half times its command.
 pub record LinesLeft (book before : List ℕ) (start : ℕ) (out : List ℕ) (at offset commands accepted : ℕ) : Type 0 where
   pub inside : offset ≤ length book
   pub fits : 2 * at ≤ 7 * offset

@@ -1,12 +1,13 @@
-// The listing of a book of captured commands (01, The book and its listing). Text is put piece by piece into octets that
-// the caller lends; each function that puts a piece returns the place behind it.
+// The listing of a book of captured commands (01, The book and its listing). Text is put piece by piece into octets
+// that the caller lends; each function that puts a piece returns the place behind it.
 ghost use mathlib.Core.Path.{_≡_};
 ghost use mathlib.Core.Bool.{false};
 ghost use mathlib.Core.List.{[], _∷_, _++_};
 ghost use Prim.Native.Nat.{_+_, _-_, _≤_, _<_};
 ghost use lib.ListN.{length};
 ghost use Rattle.rules.specs.Command.{commandVerdict};
-ghost use Rattle.rules.specs.Book.{decimal, spaced, newline, commandLine, cutLine, endLine, isCut, isBook, commandIn, acceptance};
+ghost use Rattle.rules.specs.Book.{decimal, spaced, newline, commandLine, cutLine, endLine};
+ghost use Rattle.rules.specs.Book.{isCut, isBook, commandIn, acceptance};
 ghost use Rattle.book.specs.Promise.{ListingPut, Put, PutWithin, HeadPut, linesOf, room};
 use rules::Verdict;
 use rules::limits;

@@ -1,5 +1,5 @@
--- What the boundary hands back for a record as numbers: the part of a slice that an AVP's data is, as start and length, and
--- the position that a search finds, as a number.
+-- What the boundary hands back for a record as numbers: the part of a slice that an AVP's data is, as start and length,
+-- and the position that a search finds, as a number.
 use mathlib.Core.Path.{_≡_}
 use Prim.Native.Nat.{ℕ}
 use mathlib.Core.List.{List}
@@ -37,8 +37,8 @@ pub record IsData (numbers : List ℕ) (i : ℕ) (s : List ℕ) (r : Part) : Typ
 unfoldable pub searchNumbers : List ℕ → ℕ → ℕ → ℕ
 searchNumbers numbers vendor code = positionOf (searchRecord (numberedRecord numbers) vendor code)
 
--- what `talazumir_read` gives: the verdict, and the record as numbers, all 0 with a refusal. They stand for that record, and
--- over any octets for its draft
+-- what `talazumir_read` gives: the verdict, and the record as numbers, all 0 with a refusal. They stand for that
+-- record, and over any octets for its draft
 pub record IsRead (s : List ℕ) (r : Verdict) (numbers : List ℕ) : Type 0 where
   pub verdict : r ≡ commandVerdict s
   pub recorded : numbers ≡ numbersOf (reading s .«record»)

@@ -1,6 +1,5 @@
-// The boundary for C and Rust callers: the verdict, the record as numbers, the data of a position, the search, the writer,
-// and the canonical form.
-// include/talazumir.h says the same in C's terms.
+// The boundary for C and Rust callers: the verdict, the record as numbers, the data of a position, the search, the
+// writer, and the canonical form. include/talazumir.h says the same in C's terms.
 ghost use mathlib.Core.Path.{_≡_};
 ghost use Rattle.reader.specs.Promise.{Judged};
 ghost use Rattle.numbers.specs.Draft.{numberedDraft};
@@ -37,8 +36,8 @@ pub extern "C" fn talazumir_read(s: &[u8], numbers: &mut [u32; limits::RECORD_NU
     reading.verdict
 }
 
-// The part of a slice that is the data of the AVP at a position; the empty part at 0 where the position is unused or the
-// part does not lie in the slice.
+// The part of a slice that is the data of the AVP at a position; the empty part at 0 where the position is unused or
+// the part does not lie in the slice.
 #[no_mangle]
 pub extern "C" fn talazumir_data(
     numbers: &[u32; limits::RECORD_NUMBERS],

@@ -1,5 +1,5 @@
--- A command's reading, and its record written over its octets, together: what the contracts of the reader and the writer say
--- is the canonical form, by demand 2.
+-- A command's reading, and its record written over its octets, together: what the contracts of the reader and the
+-- writer say is the canonical form, by demand 2.
 use mathlib.Core.Path.{_≡_, sym, ap, _∙_}
 use mathlib.Core.List.{List}
 use Prim.Native.Nat.{ℕ}

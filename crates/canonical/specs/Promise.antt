@@ -9,8 +9,8 @@ use Rattle.rules.specs.Command.{commandVerdict}
 use Rattle.rules.specs.Meaning.{meaningOf}
 use Rattle.rules.specs.Canonical.{canonical, canonicalOutput}
 
--- the answer and the output as it stands afterwards; of an accepted call, what was written is an accepted command, means
--- what the command means, and is as long
+-- the answer and the output as it stands afterwards; of an accepted call, what was written is an accepted command,
+-- means what the command means, and is as long
 pub record IsCanonical (s out : List ℕ) (w : Written) (after : List ℕ) : Type 0 where
   pub answer : w ≡ canonical s out
   pub left : after ≡ canonicalOutput s out

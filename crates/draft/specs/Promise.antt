@@ -1,5 +1,5 @@
--- The promises of the tests of a draft and of its sizes. What does not depend on a draft's octets is promised for all of
--- them.
+-- The promises of the tests of a draft and of its sizes. What does not depend on a draft's octets is promised for all
+-- of them.
 use mathlib.Core.Path.{_≡_}
 use Prim.Native.Nat.{ℕ, _+_, _*_, _^_, _≤_, _<_}
 use mathlib.Core.List.{List}

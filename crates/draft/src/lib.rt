@@ -1,5 +1,5 @@
-// 01, The record and the writer, 7006: the tests of a draft whose record is given as numbers, one after the other, and the
-// size of its command. That identifiers, vendors and codes fit four octets is so by their type.
+// 01, The record and the writer, 7006: the tests of a draft whose record is given as numbers, one after the other, and
+// the size of its command. That identifiers, vendors and codes fit four octets is so by their type.
 ghost use mathlib.Core.Path.{_≡_};
 ghost use mathlib.Core.Bool.{_&&_};
 ghost use mathlib.Core.List.{List};
@@ -8,7 +8,8 @@ ghost use lib.Dec.{leb};
 ghost use lib.ListN.{length, drop};
 ghost use Rattle.rules.specs.Dictionary.{dictionary};
 ghost use Rattle.rules.specs.Walk.{mostAvps, deepest};
-ghost use Rattle.rules.specs.Draft.{draftOf, isBlank, allBlank, isPlaced, allPlaced, nextDepth, isTree, hasSizes, isWellFormed};
+ghost use Rattle.rules.specs.Draft.{draftOf, isBlank, allBlank, isPlaced, allPlaced};
+ghost use Rattle.rules.specs.Draft.{nextDepth, isTree, hasSizes, isWellFormed};
 ghost use Rattle.numbers.specs.Numbers.{numberedRecord, numberedUsed};
 ghost use Rattle.numbers.specs.Draft.{numberedDraft};
 ghost use Rattle.draft.specs.Drafts.{draftCell, draftCells};

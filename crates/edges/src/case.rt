@@ -5,8 +5,8 @@ use crate::print;
 use crate::text;
 use rules::limits;
 
-// What a command starts with: the header of H (01, The book and its listing), with the flags of a BTR or of a BTA, and none
-// or some of the AVPs of S (01, Commands at the edges).
+// What a command starts with: the header of H (01, The book and its listing), with the flags of a BTR or of a BTA, and
+// none or some of the AVPs of S (01, Commands at the edges).
 pub(crate) enum Start {
     // Up to 20: no AVP.
     Request,

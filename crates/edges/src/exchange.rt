@@ -2,8 +2,8 @@
 use crate::case;
 use crate::case::Start;
 
-// BTR with 4203 = 0: 532; one of 414, 412, 421, reported as 414; 4209; 4204, on the command's own list, so that one inside
-// 284 does not count. With all of them the command has 208 octets. Of several the first in this order.
+// BTR with 4203 = 0: 532; one of 414, 412, 421, reported as 414; 4209; 4204, on the command's own list, so that one
+// inside 284 does not count. With all of them the command has 208 octets. Of several the first in this order.
 pub(crate) fn first_requests() {
     case::each(
         Start::BegunRequest,
@@ -48,8 +48,8 @@ pub(crate) fn policy_counts() {
     );
 }
 
-// Each 4207 in order holds 4204, then 432; the place is its own end, before the 282. In the last case the first 4207 lacks
-// 432 and the second 4204.
+// Each 4207 in order holds 4204, then 432; the place is its own end, before the 282. In the last case the first 4207
+// lacks 432 and the second 4204.
 pub(crate) fn policies() {
     case::each(
         Start::BegunAnswer,

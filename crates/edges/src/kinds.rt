@@ -1,5 +1,5 @@
-// 01, Dictionary, in its order: for each kind the vendor and code that are its constants, and what the dictionary says of that
-// name: whether M must be set, and the form of the data.
+// 01, Dictionary, in its order: for each kind the vendor and code that are its constants, and what the dictionary says
+// of that name: whether M must be set, and the form of the data.
 use crate::print;
 use rules::Definition;
 use rules::Form;

@@ -29,8 +29,8 @@ fn put_route_records(out: &mut [u8; 16400], start: usize, count: usize) -> usize
     at
 }
 
-// 256 AVPs: the 11 of S and 245 Route-Records of 8 octets, of which any number is admitted (01, Rows, BTR). What comes last
-// is at 160 + 245 * 8 = 2120.
+// 256 AVPs: the 11 of S and 245 Route-Records of 8 octets, of which any number is admitted (01, Rows, BTR). What comes
+// last is at 160 + 245 * 8 = 2120.
 fn many_avps(label: &[u8], last: &[u8]) {
     let mut out = [0u8; 16400];
     let first = case::put_command(&mut out, Start::S, b"");

@@ -1,7 +1,8 @@
 // Commands from a notation of their AVPs.
 //
-// An AVP is its flags (V, M, P), its code in decimal and its data: `=` and a number of four octets in decimal, `:` and octets
-// in hexadecimal, or its members in parentheses. V goes with the Vendor-Id of 3GPP; length and padding follow from the data.
+// An AVP is its flags (V, M, P), its code in decimal and its data: `=` and a number of four octets in decimal, `:` and
+// octets in hexadecimal, or its members in parentheses. V goes with the Vendor-Id of 3GPP; length and padding follow
+// from the data.
 // `#` and octets in hexadecimal are those octets and no AVP. A space or a parenthesis ends what stands before it.
 ghost use Prim.Native.Nat.{_<_};
 use crate::octets;
@@ -14,8 +15,8 @@ enum Part {
     Octets,
 }
 
-// How far the writing is: `end` is the place behind the last octet, `avp` the first octet of the AVP whose data is being
-// written, `number` what the digits so far stand for, and `depth` the number of open groups.
+// How far the writing is: `end` is the place behind the last octet, `avp` the first octet of the AVP whose data is
+// being written, `number` what the digits so far stand for, and `depth` the number of open groups.
 struct Draft {
     end: usize,
     avp: usize,

@@ -1,5 +1,5 @@
-// Octets put one behind the other into a buffer; each function returns the place behind what it put. What finds no room is
-// left out.
+// Octets put one behind the other into a buffer; each function returns the place behind what it put. What finds no room
+// is left out.
 
 pub(crate) fn put(out: &mut [u8; 16400], at: usize, octet: u8) -> usize {
     if 16400 <= at {

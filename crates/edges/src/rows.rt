@@ -10,8 +10,8 @@ pub(crate) fn after_walk() {
     );
 }
 
-// 263 in the command's list: not first with none before it, 5008; none, 5005 at the end; with one before it, 5009 at the
-// second. In a group it is a name like any other.
+// 263 in the command's list: not first with none before it, 5008; none, 5005 at the end; with one before it, 5009 at
+// the second. In a group it is a name like any other.
 pub(crate) fn session_ids() {
     case::each(
         Start::Request,
@@ -50,8 +50,8 @@ pub(crate) fn groups() {
     );
 }
 
-// The command's list is judged whole before any group: 260 has a 264 at 52, and the command's list a second 264 at 88, or no
-// 283.
+// The command's list is judged whole before any group: 260 has a 264 at 52, and the command's list a second 264 at 88,
+// or no 283.
 pub(crate) fn list_order() {
     case::each(
         Start::Request,

@@ -2,7 +2,8 @@
 use crate::case;
 use crate::case::Start;
 
-// Check 2, under 8 octets left: vendor and code are 0. The list is that of a 260 at 32 whose 266 ends at 52, or the command's.
+// Check 2, under 8 octets left: vendor and code are 0. The list is that of a 260 at 32 whose 266 ends at 52, or the
+// command's.
 pub(crate) fn stray_octets() {
     case::each(
         Start::Request,
@@ -18,8 +19,8 @@ pub(crate) fn stray_octets() {
 }
 
 // Check 2, the other clauses: V set with under 12 left, in the command's list and in a 260 of 19 octets, whose padding
-// follows; a length below 12 with V; a padded length beyond the list. 01, What comes back: the code is given if 8 octets are
-// left, the vendor if V is set and 12 are.
+// follows; a length below 12 with V; a padded length beyond the list. 01, What comes back: the code is given if 8
+// octets are left, the vendor if V is set and 12 are.
 pub(crate) fn avp_lengths() {
     case::each(
         Start::Request,
@@ -35,8 +36,8 @@ pub(crate) fn avp_lengths() {
     );
 }
 
-// Check 3: a reserved flag, and V set with vendor 0, for a name of the dictionary and for one that it lacks; M clear where
-// the dictionary has M.
+// Check 3: a reserved flag, and V set with vendor 0, for a name of the dictionary and for one that it lacks; M clear
+// where the dictionary has M.
 pub(crate) fn flags() {
     case::each(
         Start::Request,
@@ -54,8 +55,8 @@ pub(crate) fn flags() {
     );
 }
 
-// 01, Readings that look right: 4203 with V wants M; without V it is unknown, and 5001 with M (check 4). Without V and M it
-// is no Transfer-Request-Type, and that row is missing at the command's end.
+// 01, Readings that look right: 4203 with V wants M; without V it is unknown, and 5001 with M (check 4). Without V and
+// M it is no Transfer-Request-Type, and that row is missing at the command's end.
 pub(crate) fn transfer_request_types() {
     case::each(
         Start::BegunRequest,
@@ -65,8 +66,8 @@ pub(crate) fn transfer_request_types() {
     );
 }
 
-// Checks 4 to 6. 01, AVP: an AVP is named by vendor and code together. Widths of four and eight octets. The value of 277, in
-// the command's list and in a group; that of 4203 in an answer.
+// Checks 4 to 6. 01, AVP: an AVP is named by vendor and code together. Widths of four and eight octets. The value of
+// 277, in the command's list and in a group; that of 4203 in an answer.
 pub(crate) fn names_and_values() {
     case::each(
         Start::Request,

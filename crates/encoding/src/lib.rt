@@ -13,7 +13,8 @@ mod avps;
 mod flags;
 mod header;
 
-// What encoding a draft gives: the outcome of the writer's own tests, and the octets of the command, none with a refusal.
+// What encoding a draft gives: the outcome of the writer's own tests, and the octets of the command, none with a
+// refusal.
 pub struct Encoded {
     pub outcome: Outcome,
     pub size: usize,

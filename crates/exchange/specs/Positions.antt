@@ -1,5 +1,5 @@
--- What the private functions promise beside the definitions of document 01: of a search, that what it found is a position of
--- the log's AVPs, of which there are at most 256.
+-- What the private functions promise beside the definitions of document 01: of a search, that what it found is a
+-- position of the log's AVPs, of which there are at most 256.
 use mathlib.Core.Path.{_≡_}
 use Prim.Native.Nat.{ℕ, _≤_, _<_}
 use Rattle.rules.specs.declared.Found.{Found}

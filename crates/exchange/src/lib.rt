@@ -1,5 +1,5 @@
-// 01, Exchange rules: the rules of a request, those of an answer, and the time windows, over the log of a command's walk.
-// A search for an AVP is in `search`, the rules in the modules of their names.
+// 01, Exchange rules: the rules of a request, those of an answer, and the time windows, over the log of a command's
+// walk. A search for an AVP is in `search`, the rules in the modules of their names.
 ghost use mathlib.Core.Path.{_≡_};
 ghost use Prim.Native.Nat.{_≤_};
 ghost use Rattle.rules.specs.Verdict.{verdictOf, Answers};

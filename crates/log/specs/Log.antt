@@ -1,5 +1,5 @@
--- A log of 256 places of seven numbers: depth, vendor, code, M, P, and the start and the end of the data. The end stands in
--- the place of the length since a group's list ends there, and so it fits its place whatever a log holds.
+-- A log of 256 places of seven numbers: depth, vendor, code, M, P, and the start and the end of the data. The end
+-- stands in the place of the length since a group's list ends there, and so it fits its place whatever a log holds.
 use Prim.Native.Nat.{ℕ, zero, suc, _+_, _-_, _*_, _^_, min}
 use mathlib.Core.List.{List, [], _∷_}
 use mathlib.Core.Bool.{Bool, true, false, cond, _&&_}

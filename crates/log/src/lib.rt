@@ -1,5 +1,5 @@
-// The log that a walk is written into: seven numbers for each AVP in an array that the caller lends. The walk, the rows and
-// the exchange rules work on it, so that no record is copied from one AVP to the next.
+// The log that a walk is written into: seven numbers for each AVP in an array that the caller lends. The walk, the rows
+// and the exchange rules work on it, so that no record is copied from one AVP to the next.
 ghost use mathlib.Core.Path.{_≡_};
 ghost use Prim.Native.Nat.{_-_, min};
 ghost use lib.ListN.{length};
@@ -53,7 +53,8 @@ pub fn used(count: usize) -> usize
     count
 }
 
-// Keeps an AVP at a position. A position from 256 on, or data whose end does not fit four octets, leaves the log as it was.
+// Keeps an AVP at a position. A position from 256 on, or data whose end does not fit four octets, leaves the log as it
+// was.
 pub fn put(log: &mut [u32; limits::LOG_NUMBERS], position: usize, a: Avp)
     ensures { λ _. ⌜ now (log .exit) ≡ putAvp (now (log .entry)) position a ⌝ }
 {
@@ -118,7 +119,8 @@ pub fn depth_at(log: &[u32; limits::LOG_NUMBERS], position: usize) -> u32
     log[position * limits::AVP_NUMBERS]
 }
 
-// Whether the AVP at a position has a vendor and code. A search asks this first, and reads no more of an AVP of another name.
+// Whether the AVP at a position has a vendor and code. A search asks this first, and reads no more of an AVP of another
+// name.
 pub fn is_named(log: &[u32; limits::LOG_NUMBERS], position: usize, vendor: u32, code: u32) -> bool
     ensures { λ r. ⌜ r ≡ named (avpOf (now (log .entry)) position) vendor code ⌝ }
 {

@@ -24,8 +24,8 @@ pub fn matches(a: Avp, vendor: u32, code: u32) -> bool
     a.code == code
 }
 
-// The data of the AVP at a position, as that part of the slice; the empty part at its start where the position is unused or
-// the part does not lie in the slice.
+// The data of the AVP at a position, as that part of the slice; the empty part at its start where the position is
+// unused or the part does not lie in the slice.
 pub fn data<'a>(record: Record, position: usize, s: &'a [u8]) -> &'a [u8]
     ensures block { λ r. ⌜ ptr r .0 ≡ ptr (s .entry) .0 ⌝ }
     ensures place { λ r. ⌜ ptr r .1 ≡ dataStart «record» position (length (now (s .entry))) + ptr (s .entry) .1 ⌝ }

@@ -1,4 +1,5 @@
--- The laws of a record as numbers, position by position, of its flags, and of the draft that numbers and octets stand for.
+-- The laws of a record as numbers, position by position, of its flags, and of the draft that numbers and octets stand
+-- for.
 pub mod Numbers
 pub mod Positions
 mod Flags

@@ -1,5 +1,5 @@
--- 01, The record and the writer: a flag that fits its place on the wire is 0 or 1. R, P, E and T, and M and P of each of
--- the 256 positions, used or not.
+-- 01, The record and the writer: a flag that fits its place on the wire is 0 or 1. R, P, E and T, and M and P of each
+-- of the 256 positions, used or not.
 use Prim.Native.Nat.{ℕ, zero, suc, _+_}
 use mathlib.Core.List.{List}
 use mathlib.Core.Bool.{Bool, true, _&&_}

@@ -1,10 +1,12 @@
-// A record as numbers in a lent array: written whole, and read place by place, so that no record is made to read one AVP.
+// A record as numbers in a lent array: written whole, and read place by place, so that no record is made to read one
+// AVP.
 ghost use mathlib.Core.Path.{_≡_};
 ghost use Prim.Native.Nat.{_<_, min};
 ghost use lib.ListN.{length};
 ghost use lib.Seq.{sets};
 ghost use Rattle.rules.specs.Walk.{mostAvps};
-ghost use Rattle.numbers.specs.Numbers.{headNumbers, avpNumbers, numbersOf, recordNumbers, numberedPlace, numberedAvp, numberedCount, numberedHead};
+ghost use Rattle.numbers.specs.Numbers.{headNumbers, avpNumbers, numbersOf, recordNumbers};
+ghost use Rattle.numbers.specs.Numbers.{numberedPlace, numberedAvp, numberedCount, numberedHead};
 ghost use Rattle.numbers.specs.Flags.{headFlagsFit, avpFlagsFit, flagsFit};
 use rules::Avp;
 use rules::Record;

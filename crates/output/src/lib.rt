@@ -1,5 +1,6 @@
-// Octets put into a lent output from a place on: numbers of 3 and 4 octets, big-endian, by one law over the width; octets as
-// they stand, and zeros. What has no room there leaves the output as it was, so each function takes any place.
+// Octets put into a lent output from a place on: numbers of 3 and 4 octets, big-endian, by one law over the width;
+// octets as they stand, and zeros. What has no room there leaves the output as it was, so each function takes any
+// place.
 ghost use mathlib.Core.Path.{_≡_};
 ghost use lib.ListN.{replicate};
 ghost use Rattle.rules.specs.Octets.{octets};

@@ -38,7 +38,7 @@ pub fn outcome(s: &[u8], log: &mut [u32; limits::LOG_NUMBERS]) -> Outcome
     judged.outcome
 }
 
-// The verdict of a command. The lent log is written anew from position 0 on, and makes a record needless.
+// The verdict of a command. The lent log is written anew from position 0 on; no record is made.
 pub fn verdict(s: &[u8], log: &mut [u32; limits::LOG_NUMBERS]) -> Verdict
     ensures { λ r. ⌜ Judged (now (s .entry)) (now (log .entry)) r (now (log .exit)) ⌝ }
 {

@@ -1,5 +1,5 @@
-// The row that names an AVP in a list (01, Rows). Each arm of a `match` on the code stands for one row, which is counted
-// from 0 in the printed order.
+// The row that names an AVP in a list (01, Rows). Each arm of a `match` on the code stands for one row, which is
+// counted from 0 in the printed order.
 ghost use mathlib.Core.Path.{_≡_};
 ghost use Rattle.rules.specs.Rows.{admitsOthers};
 ghost use Rattle.rules.specs.RowChecks.{admission};

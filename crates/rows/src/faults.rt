@@ -1,5 +1,5 @@
-// The outcome of one member that has a row (01, Order of checks, Rows): 5008 where it is not admitted, 5009 where it exceeds
-// its row.
+// The outcome of one member that has a row (01, Order of checks, Rows): 5008 where it is not admitted, 5009 where it
+// exceeds its row.
 ghost use mathlib.Core.Path.{_≡_};
 ghost use mathlib.Core.Bool.{cond};
 ghost use Rattle.rules.specs.RowChecks.{memberFault, byMark};
@@ -29,7 +29,8 @@ fn first_and_once(met: bool, first: bool, a: Avp) -> Outcome
     member_fault(5008, a)
 }
 
-// A member that has a row with this mark: `met` says that the row was met before, `first` that the member is the list's first.
+// A member that has a row with this mark: `met` says that the row was met before, `first` that the member is the list's
+// first.
 pub(crate) fn by_mark(mark: Mark, met: bool, first: bool, a: Avp) -> Outcome
     ensures { λ r. ⌜ r ≡ byMark mark met first a ⌝ }
 {

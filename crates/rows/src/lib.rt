@@ -1,5 +1,6 @@
-// The row checks over a lent log (01, Order of checks, Rows): the command's list, then each group in walk order; within a
-// list the members in order, then the first missing row. What a list's rows are stands in `admitted` and `requirements`.
+// The row checks over a lent log (01, Order of checks, Rows): the command's list, then each group in walk order; within
+// a list the members in order, then the first missing row. What a list's rows are stands in `admitted` and
+// `requirements`.
 ghost use mathlib.Core.Path.{_≡_};
 ghost use mathlib.Core.Bool.{cond};
 ghost use Prim.Native.Nat.{_+_, _≤_, _<_};
@@ -44,8 +45,8 @@ fn without_row(grammar: Grammar, a: Avp) -> Outcome
     avp::member_fault(5008, a)
 }
 
-// The list at a depth whose members follow from a position on, up to the first AVP above that depth; deeper ones belong to
-// its groups.
+// The list at a depth whose members follow from a position on, up to the first AVP above that depth; deeper ones belong
+// to its groups.
 fn list_outcome(
     log: &[u32; limits::LOG_NUMBERS],
     from: usize,
@@ -119,8 +120,8 @@ fn groups_outcome(log: &[u32; limits::LOG_NUMBERS], count: usize) -> Outcome
     Outcome::Pass
 }
 
-// The row checks of a command whose AVPs stand in a log with this count, above 256 read as 256, and whose own list ends at
-// `end`.
+// The row checks of a command whose AVPs stand in a log with this count, above 256 read as 256, and whose own list ends
+// at `end`.
 pub fn judge(log: &[u32; limits::LOG_NUMBERS], count: usize, grammar: Grammar, end: u32) -> Outcome
     ensures { λ r. ⌜ Answers verdictOf (rowsOutcome dictionary grammar end (avpsIn (now (log .entry)) count)) r ⌝ }
 {

@@ -1,5 +1,5 @@
--- The octets of a well-formed draft's AVPs (01, The record and the writer), as the writer's code computes them: cited by
--- the crate writer. A read group needs no padding, and the command's own list is the members at depth 1.
+-- The octets of a well-formed draft's AVPs (01, The record and the writer), as the writer's code computes them: cited
+-- by the crate encoding. A read group needs no padding, and the command's own list is the members at depth 1.
 use mathlib.Core.Path.{_≡_, sym, _∙_}
 use mathlib.Core.Bool.{true}
 use lib.ListN.{length}

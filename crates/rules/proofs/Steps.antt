@@ -1,5 +1,6 @@
--- More steps change nothing. A walk with as many steps as octets are left in its list, and the lines of a listing with more
--- steps than octets are left in the book, are the same with every other such number of steps: the steps never run out.
+-- More steps change nothing. A walk with as many steps as octets are left in its list, and the lines of a listing with
+-- more steps than octets are left in the book, are the same with every other such number of steps: the steps never run
+-- out.
 use mathlib.Core.Path.{_≡_, refl, sym, ap, _∙_}
 use mathlib.Core.Bool.{true, false, _||_}
 use mathlib.Core.List.{List, [], _∷_, _++_}

@@ -1,4 +1,5 @@
--- Laws of the walk's definitions, case by case: the checks of an AVP, one AVP, and the list. They hold for every dictionary.
+-- Laws of the walk's definitions, case by case: the checks of an AVP, one AVP, and the list. They hold for every
+-- dictionary.
 use mathlib.Core.Path.{_≡_, refl, _∙_}
 use mathlib.Core.Bool.{Bool, true, false, cond}
 use mathlib.Core.List.{List, [], _∷_, _++_, append-assoc}

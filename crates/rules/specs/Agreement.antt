@@ -1,5 +1,5 @@
--- 01, The record and the writer, "For demand 3": padding, and the agreement of two commands, as a claim (`Agree`) and as a
--- test that computes (`agree`). That they say the same is agree-tells (proofs/demands/agreement/Tested).
+-- 01, The record and the writer, "For demand 3": padding, and the agreement of two commands, as a claim (`Agree`) and
+-- as a test that computes (`agree`). That they say the same is agree-tells (proofs/demands/agreement/Tested).
 use mathlib.Core.Path.{_≡_}
 use Prim.Native.Nat.{ℕ, zero, suc, _+_, _-_, _/_, _<_}
 use mathlib.Core.List.{List, [], _∷_}

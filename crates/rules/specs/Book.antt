@@ -78,8 +78,8 @@ commandIn s at = take (lengthOf s at) (drop at s)
 abbrev pub acceptance : Verdict → ℕ
 acceptance v = cond (isAccepted v) 1 0
 
--- the lines from an offset on, after this many commands and acceptances. The first argument bounds the lines; as many
--- as there are octets left are enough (proofs/Steps)
+-- the lines from an offset on, after this many commands and acceptances. The first argument bounds the lines; one more
+-- than there are octets left is enough (proofs/Steps)
 unfoldable pub linesFrom : ℕ → List ℕ → ℕ → ℕ → ℕ → List ℕ
 linesFrom zero s at commands accepted = []
 linesFrom (suc n) s at commands accepted =

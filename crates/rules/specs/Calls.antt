@@ -1,6 +1,7 @@
--- 01, The record and the writer: lists of write calls. Each call gets the part of the output behind the octets written so
--- far, as the call before left it. What a call answers and leaves is what the writer's contract cites. A draft stands with
--- its octets as they are at its call; none of them lie in the part that its call gets, so the call leaves them as they are.
+-- 01, The record and the writer: lists of write calls. Each call gets the part of the output behind the octets written
+-- so far, as the call before left it. What a call answers and leaves is what the writer's contract cites. A draft
+-- stands with its octets as they are at its call; none of them lie in the part that its call gets, so the call leaves
+-- them as they are.
 use mathlib.Core.Path.{_≡_}
 use Prim.Native.Nat.{ℕ, _+_}
 use mathlib.Core.List.{List, [], _∷_, _++_}

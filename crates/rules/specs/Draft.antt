@@ -1,4 +1,5 @@
--- 01, The record and the writer: the draft, and the tests of 7006 in 01's order. Each is true where its fault is not met.
+-- 01, The record and the writer: the draft, and the tests of 7006 in 01's order. Each is true where its fault is not
+-- met.
 use Prim.Native.Nat.{ℕ, _+_, _^_}
 use mathlib.Core.List.{List, [], _∷_, map}
 use mathlib.Core.Bool.{Bool, true, cond, not, _&&_}

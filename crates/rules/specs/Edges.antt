@@ -1,6 +1,6 @@
--- 01, Commands at the edges: the cases that it marks (p) as one theorem over a list, the listing of the book that it works
--- out, and further cases, of requests, answers and groups, whose answers follow from its rules. All are computed from the
--- definitions. Numbers stand as 01 prints them.
+-- 01, Commands at the edges: the cases that it marks (p) as one theorem over a list, the listing of the book that it
+-- works out, and further cases, of requests, answers and groups, whose answers follow from its rules. All are computed
+-- from the definitions. Numbers stand as 01 prints them.
 use mathlib.Core.Path.{_≡_, refl}
 use Prim.Native.Nat.{ℕ}
 use Prim.Native.String.{String}
@@ -125,8 +125,8 @@ answerBegins =
     ++ avp 264 0x40 9 (letter 0x68)
     ++ avp 296 0x40 9 (letter 0x72)
 
--- further cases: 01's S with 4203 = 2 and its windows; an accepted first request and an accepted answer; an answer without
--- a result and one with both; rows missing, not admitted and exceeded, in the command's own list and in a group
+-- further cases: 01's S with 4203 = 2 and its windows; an accepted first request and an accepted answer; an answer
+-- without a result and one with both; rows missing, not admitted and exceeded, in the command's own list and in a group
 unfoldable pub further : List Case
 further =
     case (requestHeader 160 ++ sBegins vendorId 20 ++ sGoesOn 2 ++ sEnds) 5004 100 vendor3GPP 4203

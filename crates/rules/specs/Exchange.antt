@@ -1,6 +1,6 @@
--- 01, Exchange rules (clause 4.4.1), over the AVPs of the walk: those of a request, those of an answer, and the windows.
--- `end` is the end of the command's own list. The definitions answer for every list of AVPs; where walk or rows have
--- refused a command before, the comment says so.
+-- 01, Exchange rules (clause 4.4.1), over the AVPs of the walk: those of a request, those of an answer, and the
+-- windows. `end` is the end of the command's own list. The definitions answer for every list of AVPs; where walk or
+-- rows have refused a command before, the comment says so.
 use Prim.Native.Nat.{ℕ, _+_}
 use mathlib.Core.List.{List, [], _∷_}
 use mathlib.Core.Bool.{Bool, cond}

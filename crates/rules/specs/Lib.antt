@@ -15,8 +15,8 @@ pub mod Exchange
 pub mod Command
 -- What comes back
 pub mod Verdict
--- The record and the writer: the record, meaning, data and search; the draft, the call and its octets; agreement and lists
--- of calls; and what the demands claim of them
+-- The record and the writer: the record, meaning, data and search; the draft, the call and its octets; agreement and
+-- lists of calls; and what the demands claim of them
 pub mod Record
 pub mod Meaning
 pub mod Search

@@ -1,5 +1,5 @@
--- What the demands claim of the answers (proofs/demands/Order): the place, vendor and code that go with a number, and which
--- check decides, in 01's order, for a command and for a write call.
+-- What the demands claim of the answers (proofs/demands/Order): the place, vendor and code that go with a number, and
+-- which check decides, in 01's order, for a command and for a write call.
 use mathlib.Core.Path.{_≡_}
 use Prim.Native.Nat.{ℕ, _≤_, _<_}
 use mathlib.Core.Bool.{Bool, true, false, not, _&&_, _||_}
@@ -29,8 +29,8 @@ unnamed number v = not (eqb (v .number) number) || eqb (v .vendor) 0 && eqb (v .
 abbrev pub placed : ℕ → List ℕ → Verdict → Bool
 placed number places v = not (eqb (v .number) number) || isAmong places (v .place) && unnamed number v
 
--- 01, What comes back: place, vendor and code of acceptance are 0; header refusals and 7002 have vendor and code 0. The places
--- of the header refusals are those of 01, Order of checks, Header, in its order
+-- 01, What comes back: place, vendor and code of acceptance are 0; header refusals and 7002 have vendor and code 0. The
+-- places of the header refusals are those of 01, Order of checks, Header, in its order
 unfoldable pub fitsTable : Verdict → Bool
 fitsTable v =
     placed 0 (0 ∷ []) v
@@ -43,8 +43,8 @@ fitsTable v =
     && placed 7005 (4 ∷ []) v
     && unnamed 7002 v
 
--- the checks over the AVPs of a command's walk, in 01's order: the rows of the command's own list, those of each group, the
--- exchange rules of the request or the answer, the windows
+-- the checks over the AVPs of a command's walk, in 01's order: the rows of the command's own list, those of each group,
+-- the exchange rules of the request or the answer, the windows
 abbrev pub ownRows : List ℕ → List Avp → Outcome
 ownRows c xs = listOutcome (commandGrammar (commandFlags c)) 1 (length c) xs
 

@@ -30,7 +30,8 @@ admissionFrom i (r ∷ rs) vendor code =
 abbrev pub admission : Grammar → ℕ → ℕ → Admission
 admission g vendor code = admissionFrom 0 (rowsOf g) vendor code
 
--- a row count per list: how often each row has been met. Of the 24 counts the longest list, of 23 rows, uses all but one
+-- a row count per list: how often each row has been met. Of the 24 counts the longest list, of 23 rows, uses all but
+-- one
 abbrev pub noneMet : List ℕ
 noneMet = replicate 24 0
 

@@ -23,7 +23,8 @@ avpIn xs i = getD xs i blank
 abbrev pub isAt : Avp → ℕ → ℕ → ℕ → Bool
 isAt a depth vendor code = eqb (a .depth) depth && named a vendor code
 
--- the position, counted from i, of the first AVP at a depth with a vendor and code, before any AVP above the depth `floor`
+-- the position, counted from i, of the first AVP at a depth with a vendor and code, before any AVP above the depth
+-- `floor`
 unfoldable pub firstFrom : ℕ → ℕ → ℕ → List Avp → ℕ → ℕ → Found
 firstFrom i floor depth [] vendor code = Nothing
 firstFrom i floor depth (a ∷ xs) vendor code =

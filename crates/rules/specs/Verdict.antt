@@ -62,8 +62,8 @@ abbrev pub verdictOf : Outcome → Verdict
 verdictOf Pass = verdict 0 0 0 0
 verdictOf (Refused v) = v
 
--- 01, Forms, last paragraph: what a function promises whose answer is an enum. It is this answer, and it has this answer's
--- number and values in 01, which `values` gives for each case
+-- 01, Forms, last paragraph: what a function promises whose answer is an enum. It is this answer, and it has this
+-- answer's number and values in 01, which `values` gives for each case
 pub record Answers {A B : Type 0} (values : A → B) (answer r : A) : Type 0 where
   pub is : r ≡ answer
   pub told : values r ≡ values answer

@@ -1,5 +1,6 @@
--- 01, Order of checks, Walk: the seven checks of an AVP, each in 01's words and order, and the walk of a list, which gives
--- the AVPs in walk order or stops at the first fault. The dictionary is an argument throughout; an AVP's fields are in Avp.
+-- 01, Order of checks, Walk: the seven checks of an AVP, each in 01's words and order, and the walk of a list, which
+-- gives the AVPs in walk order or stops at the first fault. The dictionary is an argument throughout; an AVP's fields
+-- are in Avp.
 use Prim.Native.Nat.{ℕ, zero, suc, _+_, _-_, _%_}
 use mathlib.Core.List.{List, [], _∷_, _++_}
 use mathlib.Core.Bool.{Bool, true, false, cond, not, _&&_, _||_}
@@ -41,7 +42,8 @@ deepest = 4
 abbrev pub isFull : Standing → Bool
 isFull w = leb mostAvps (w .count)
 
--- check 2, of the list's octets from `at` to `end`. The code is given if 8 octets are left, the vendor if V is set and 12 are
+-- check 2, of the list's octets from `at` to `end`. The code is given if 8 octets are left, the vendor if V is set and
+-- 12 are
 unfoldable pub framing : List ℕ → ℕ → ℕ → Outcome
 framing s at end =
     -- under 8 octets left in the list
@@ -144,8 +146,8 @@ inGroup w a = record { at = a .start; end = endOf a; depth = w .depth + 1; count
 abbrev pub behind : List ℕ → Standing → ℕ → Standing
 behind s w k = record { at = nextAt s (w .at); end = w .end; depth = w .depth; count = w .count + k }
 
--- what follows of an AVP that was checked, given the list walk: a group is read as a list. Any other AVP is not looked into,
--- 279, 621, 623, 650 and unknown ones among them, whatever they hold (01, Not judged)
+-- what follows of an AVP that was checked, given the list walk: a group is read as a list. Any other AVP is not looked
+-- into, 279, 621, 623, 650 and unknown ones among them, whatever they hold (01, Not judged)
 abbrev pub entered : (Standing → Walked) → Standing → Checked → Walked
 entered list w (Fault v) = stopped [] v
 entered list w (Plain a) = whole (a ∷ [])
@@ -155,8 +157,8 @@ entered list w (Group a) = after (a ∷ []) (list (inGroup w a))
 unfoldable pub walkAvp : (Standing → Walked) → List Entry → List ℕ → Standing → Walked
 walkAvp list dict s w = entered list w (checked dict s w)
 
--- the list walk: a list reads its AVPs up to its end. The first argument bounds the steps; as many as there are octets left
--- are enough, and more change nothing (proofs/Steps)
+-- the list walk: a list reads its AVPs up to its end. The first argument bounds the steps; as many as there are octets
+-- left are enough, and more change nothing (proofs/Steps)
 unfoldable pub walkList : ℕ → List Entry → List ℕ → Standing → Walked
 walkList zero dict s w = whole []
 walkList (suc n) dict s w =

@@ -1,5 +1,5 @@
-// Prints the listing of the book on standard input (01, The book and its listing). It only moves octets: what the listing
-// is, the crate `book` settles.
+// Prints the listing of the book on standard input (01, The book and its listing). It only moves octets: what the
+// listing is, the crate `book` settles.
 ghost use lib.ListN.{length};
 ghost use Rattle.verdicts.specs.Input.{ReadWhole};
 use libc::STDERR_FILENO;
@@ -12,8 +12,8 @@ enum Input {
     Failed,
 }
 
-// Reads until the buffer is full or a read gives nothing, which is the end of the input, in pieces of any size. A read that
-// a signal broke off counts as failed.
+// Reads until the buffer is full or a read gives nothing, which is the end of the input, in pieces of any size. A read
+// that a signal broke off counts as failed.
 fn read_input(buffer: &mut [u8]) -> Input
     ensures { λ r. ⌜ ReadWhole (length (now (buffer .entry))) r ⌝ }
 {

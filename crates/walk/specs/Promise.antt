@@ -1,5 +1,5 @@
--- The promises of the walk, in terms of document 01's definitions. A private promise holds at every number of steps that is
--- enough, so that no law on the number of steps is needed; the public one fixes it.
+-- The promises of the walk, in terms of document 01's definitions. A private promise holds at every number of steps
+-- that is enough, so that no law on the number of steps is needed; the public one fixes it.
 use mathlib.Core.Path.{_≡_}
 use Prim.Native.Nat.{ℕ, suc, _+_, _-_, _≤_, _<_}
 use mathlib.Core.List.{List, []}
@@ -52,7 +52,8 @@ avpBy at depth header vendor code flags size = record {
   length = size - header;
 }
 
--- a walk stands in a command: in a list that lies there, at a depth that a list has, with no more AVPs than there is room for
+-- a walk stands in a command: in a list that lies there, at a depth that a list has, with no more AVPs than there is
+-- room for
 pub record StandsIn (s : List ℕ) (w : Standing) : Type 0 where
   pub place : InList s (w .at) (w .end)
   pub level : w .depth ≤ deepest

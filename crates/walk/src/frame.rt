@@ -1,5 +1,5 @@
-// 01, AVP, and Walk, check 2: the AVP at a place, if the octets left in its list hold it. Its header is read once, from the
-// rest of the list, so that one test of its length spares those of each number.
+// 01, AVP, and Walk, check 2: the AVP at a place, if the octets left in its list hold it. Its header is read once, from
+// the rest of the list, so that one test of its length spares those of each number.
 ghost use mathlib.Core.Path.{_≡_};
 ghost use Prim.Native.Nat.{_^_, _≤_, _<_};
 ghost use Rattle.rules.specs.Verdict.{verdict};
@@ -77,9 +77,9 @@ fn avp_by(
     }
 }
 
-// Check 2 of the AVP at a place, in a list at this depth: the code is given where 8 octets are left, the vendor where V is set
-// and 12 are. The two sizes of a header are two paths up to their answers: joined in a function below, they cost the
-// compiled walk what the one reading gains.
+// Check 2 of the AVP at a place, in a list at this depth: the code is given where 8 octets are left, the vendor where V
+// is set and 12 are. The two sizes of a header are two paths up to their answers: joined in a function below, they cost
+// the compiled walk what the one reading gains.
 pub(crate) fn framed(s: &[u8], at: usize, end: usize, depth: u32) -> Frame
     requires { ⌜ InList (now s) at end ⌝ }
     ensures { λ r. ⌜ r ≡ frameOf (framing (now (s .entry)) at end) (avpAt (now (s .entry)) at depth) ⌝ }

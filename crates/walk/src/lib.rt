@@ -1,5 +1,5 @@
-// 01, Order of checks, Walk: the AVPs of a command in walk order, written into a lent log, or the first fault. The list walk
-// and the AVP walk call each other; the depth that is left falls at each group.
+// 01, Order of checks, Walk: the AVPs of a command in walk order, written into a lent log, or the first fault. The list
+// walk and the AVP walk call each other; the depth that is left falls at each group.
 ghost use Rattle.rules.specs.Walk.{standing};
 ghost use Rattle.walk.specs.Promise.{StandsIn, AvpWalked, ListWalked, CommandWalked};
 use rules::Checked;
@@ -86,8 +86,8 @@ fn walk_list(
     Walk::Whole(met)
 }
 
-// The walk of a command's own list. A command without the octets of a header has no list; one that is longer than any is
-// refused as by its header.
+// The walk of a command's own list. A command without the octets of a header has no list; one that is longer than any
+// is refused as by its header.
 pub fn walk_command(s: &[u8], log: &mut [u32; limits::LOG_NUMBERS]) -> Walk
     ensures { λ r. ⌜ CommandWalked (now (s .entry)) (now (log .entry)) r (now (log .exit)) ⌝ }
 {

@@ -1,5 +1,6 @@
-// The writer of commands: from a draft, a record over lent octets, to a command in a lent output. A refused output stays
-// as it was, so the command is first put into an array of the longest command's size, and there the reader judges it.
+// The writer of commands: from a draft, a record over lent octets, to a command in a lent output. A refused output
+// stays as it was, so the command is first put into an array of the longest command's size, and there the reader judges
+// it.
 ghost use mathlib.Core.Path.{_≡_};
 ghost use mathlib.Core.List.{[]};
 ghost use lib.ListN.{length, take};
@@ -48,8 +49,8 @@ fn write_command(command: &[u8], size: usize, out: &mut [u8]) -> Written
     }
 }
 
-// Writes the draft that the numbers and the octets stand for: 7006, 7001 and 7004, then what the reader says of the octets;
-// accepted, they stand at the start of the output.
+// Writes the draft that the numbers and the octets stand for: 7006, 7001 and 7004, then what the reader says of the
+// octets; accepted, they stand at the start of the output.
 pub fn write_numbers(numbers: &[u32; limits::RECORD_NUMBERS], s: &[u8], out: &mut [u8]) -> Written
     ensures { λ r. ⌜ IsWritten (numberedDraft (now (numbers .entry)) (now (s .entry))) (now (out .entry)) r (now (out .exit)) ⌝ }
 {

@@ -1,5 +1,5 @@
-//! Reads a command in hex from the command line, prints its verdict and, where it is accepted, its AVPs: position, depth,
-//! vendor, code, M, P and data.
+//! Reads a command in hex from the command line, prints its verdict and, where it is accepted, its AVPs: position,
+//! depth, vendor, code, M, P and data.
 //!
 //! `cargo run --example verdict -- 01000014C080007301000084 0000000100000002`
 

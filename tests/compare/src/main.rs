@@ -1,8 +1,8 @@
-//! Compares the proved reader, over its boundary, with the second reader on generated commands: the verdict, the whole record,
-//! the data of every position and the search.
+//! Compares the proved reader, over its boundary, with the second reader on generated commands: the verdict, the whole
+//! record, the data of every position and the search.
 //!
-//! `compare SEED COMMANDS` ends with a table of what was reached. It exits 1 at the first difference, with the command in
-//! hexadecimal, or where a cell of the table is empty.
+//! `compare SEED COMMANDS` ends with a table of what was reached. It exits 1 at the first difference, with the command
+//! in hexadecimal, or where a cell of the table is empty.
 
 use second_reader::coverage::Coverage;
 use second_reader::generate::{command, Prng};

@@ -142,8 +142,8 @@ impl Display for Coverage {
     }
 }
 
-/// Whether the AVP at fault is known, has a fixed width and lies whole in the command, so that its width is at fault; an AVP
-/// that only its list cuts off may pass for one.
+/// Whether the AVP at fault is known, has a fixed width and lies whole in the command, so that its width is at fault;
+/// an AVP that only its list cuts off may pass for one.
 fn fits(octets: &[u8], verdict: &Verdict) -> bool {
     let place = verdict.place as usize;
     AvpHeader::read(&octets[place..], place).is_ok_and(|header| {

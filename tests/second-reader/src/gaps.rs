@@ -1,5 +1,5 @@
-//! What a run must have reached: each number, each of the walk's checks at each depth, each row's missing and exceeding, and
-//! each exchange rule. A run that lacks one has tested less than it says.
+//! What a run must have reached: each number, each of the walk's checks at each depth, each row's missing and
+//! exceeding, and each exchange rule. A run that lacks one has tested less than it says.
 
 use crate::coverage::Coverage;
 use crate::dictionary::Kind;

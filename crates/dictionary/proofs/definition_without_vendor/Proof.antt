@@ -1,4 +1,5 @@
--- `dictionary::definition_without_vendor` meets its contract: an arm knows the code, and `_` that it is none of the vendor's.
+-- `dictionary::definition_without_vendor` meets its contract: an arm knows the code, and `_` that it is none of the
+-- vendor's.
 use borrow.Author.Needs.{needs}
 use mathlib.Core.Path.{refl}
 use Prim.Native.Nat.{ℕ}

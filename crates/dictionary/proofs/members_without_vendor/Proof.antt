@@ -1,4 +1,5 @@
--- `dictionary::members_without_vendor` meets its contract: an arm knows the code, and `_` that it is none of the vendor's groups.
+-- `dictionary::members_without_vendor` meets its contract: an arm knows the code, and `_` that it is none of the
+-- vendor's groups.
 use mathlib.Core.Path.{refl}
 use Prim.Native.Nat.{ℕ}
 use Rattle.rules.specs.declared.Members.{Members}

@@ -1,5 +1,5 @@
--- `rows::list_outcome` meets its contract. The invariant says what is left: the members from position `i` on, with the row
--- counts so far, each at most the number of AVPs passed.
+-- `rows::list_outcome` meets its contract. The invariant says what is left: the members from position `i` on, with the
+-- row counts so far, each at most the number of AVPs passed.
 use borrow.Author.Needs.{needs}
 use mathlib.Core.Path.{_≡_, refl, sym, ap, _∙_}
 use mathlib.Core.List.{List, [], _∷_}

@@ -64,8 +64,8 @@ examples =
       output = replicate 159 0xEE;
       accepted = [];
     }
-    -- S with other padding and reserved bits is written as S; between the two a call is refused, since P is clear in the
-    -- empty record, and the next call gets the same part
+    -- S with other padding and reserved bits is written as S; between the two a call is refused, since P is clear in
+    -- the empty record, and the next call gets the same part
     ∷ record {
       commands = s ∷ [] ∷ altered ∷ [];
       before = replicate 323 0xEE;

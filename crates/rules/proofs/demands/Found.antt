@@ -1,5 +1,5 @@
--- What a search finds: 01's first AVP at depth 1 with a vendor and code, and none exactly when there is none. One law over
--- `firstFrom` serves the search and the search among the members of a group.
+-- What a search finds: 01's first AVP at depth 1 with a vendor and code, and none exactly when there is none. One law
+-- over `firstFrom` serves the search and the search among the members of a group.
 use mathlib.Core.Path.{_≡_, refl, sym, ap, _∙_}
 use mathlib.Core.Bool.{Bool, true, false}
 use mathlib.Core.Logic.{_↔_}
@@ -147,8 +147,8 @@ module _ (a : Avp) (depth vendor code : ℕ) where
 
 -- "A search gives the first AVP at depth 1 with a vendor and code, as its position".
 -- Carried by first-is.
--- Ruled out: a search that gives the last of several; one that takes a member of a group for an AVP of the command's own
--- list.
+-- Ruled out: a search that gives the last of several; one that takes a member of a group for an AVP of the command's
+-- own list.
 pub search-first : (xs : List Avp) (vendor code i : ℕ) → (search xs vendor code ≡ At i) ↔ FirstAvp xs vendor code i
 search-first xs vendor code i =
     let q : i ≡ 0 + i = omega arith in

@@ -1,5 +1,5 @@
--- What a listing tells of a book: a line for each command, with its ordinal, offset and verdict, and `end` with the number
--- of commands and of acceptances; or the same lines, then `cut`, and no `end`.
+-- What a listing tells of a book: a line for each command, with its ordinal, offset and verdict, and `end` with the
+-- number of commands and of acceptances; or the same lines, then `cut`, and no `end`.
 use mathlib.Core.Path.{_≡_, refl, sym, ap, _∙_}
 use mathlib.Core.Bool.{true}
 use mathlib.Core.Logic.{_⊎_, inl, inr, ⊎-elim}
@@ -53,7 +53,8 @@ module _ (cs : List (List ℕ)) (e : AllEntered cs) where
   -- "With one to three octets left, a length under 20 or one past the end, it prints ordinal, offset and `cut`, and no
   -- `end`."
   -- Carried by lines-of and cut-line.
-  -- Ruled out: `end` after a cut, so that a broken book passes; a cut whose ordinal or offset is that of the command before.
+  -- Ruled out: `end` after a cut, so that a broken book passes; a cut whose ordinal or offset is that of the command
+  -- before.
   pub listing-cut : (left : List ℕ) → CutOff left → length (bookOf cs left) ≤ longestBook
       → listing (bookOf cs left)
       ≡ headLine ++ (commandLines 1 bookHead cs ++ cutLine (length cs + 1) (bookHead + length (endToEnd cs)))
@@ -177,7 +178,8 @@ passes-not s oct none passes =
 
 -- "A wrong or short head or a longer book prints `not a book` only."
 -- Carried by head-is.
--- Ruled out: a head of version 2 that is read as one of version 1; a book of more than 65,536 octets that is listed in part.
+-- Ruled out: a head of version 2 that is read as one of version 1; a book of more than 65,536 octets that is listed in
+-- part.
 pub listing-no-book : (s : List ℕ) → AreOctets s → NoBook s → listing s ≡ notABook
 unfolding listing
 listing-no-book s oct none =

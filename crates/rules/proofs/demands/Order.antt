@@ -1,6 +1,6 @@
--- The demands on the answers: which check decides, in 01's order, for a command and for a write call, and with which place,
--- vendor and code. Above each: the words that it meets, what carries it, and two wrong systems that it rules out. The
--- claims stand in rules/specs/Order.
+-- The demands on the answers: which check decides, in 01's order, for a command and for a write call, and with which
+-- place, vendor and code. Above each: the words that it meets, what carries it, and two wrong systems that it rules
+-- out. The claims stand in rules/specs/Order.
 use mathlib.Core.Path.{_≡_, refl, ap, _∙_}
 use mathlib.Core.Bool.{true, false}
 use mathlib.Core.List.{List}
@@ -54,11 +54,11 @@ module _ (c : List ℕ) where
             none = λ a b e w. by-lists ∙ rw (a, b, e, w);
           }
 
--- "the first that applies is the answer" (01, Order of checks): header, walk, the rows of the command's list, those of each
--- group, exchange rules, windows; where none applies, the command is accepted.
+-- "the first that applies is the answer" (01, Order of checks): header, walk, the rows of the command's list, those of
+-- each group, exchange rules, windows; where none applies, the command is accepted.
 -- Carried by the definition of commandOutcome (rules/specs/Command) alone.
--- Ruled out: a reader that reports row faults before a later 5014; one that reports faults in the order in which it meets
--- them, so that a group's row fault comes before a later fault of the command's own list.
+-- Ruled out: a reader that reports row faults before a later 5014; one that reports faults in the order in which it
+-- meets them, so that a group's row fault comes before a later fault of the command's own list.
 pub demand-2-first-fault : (c : List ℕ) → FirstFault c
 demand-2-first-fault c =
     record {
@@ -69,13 +69,14 @@ demand-2-first-fault c =
 
 -- 01, What comes back: "0: accepted; place, vendor and code 0".
 -- Carried by demand-2-accepted.
--- Ruled out: an accepted command that comes back with the place where the walk ended; one with the name of its last AVP.
+-- Ruled out: an accepted command that comes back with the place where the walk ended; one with the name of its last
+-- AVP.
 pub demand-2-accepted-verdict : (c : List ℕ) → AcceptedCommand c → commandVerdict c ≡ verdict 0 0 0 0
 unfolding commandVerdict
 demand-2-accepted-verdict c a = ap verdictOf (demand-2-accepted c .0 a)
 
--- "Every refusal carries place, vendor and code [...] Header refusals and 7002 have vendor and code 0" (01, What comes back):
--- the place of a header refusal is that of the field at fault, and 5015, which stands at 0 or 1, names none.
+-- "Every refusal carries place, vendor and code [...] Header refusals and 7002 have vendor and code 0" (01, What comes
+-- back): the place of a header refusal is that of the field at fault, and 5015, which stands at 0 or 1, names none.
 -- Carried by header-meets and walk-meets (numbering/Refusals), rows-meets and exchange-meets (numbering/ListRefusals).
 -- Ruled out: a reader whose 3001 stands at place 8, as 3007 does; one whose 7002 carries the name of the 257th AVP.
 pub demand-1-header-places : (c : List ℕ) → fitsTable (commandVerdict c) ≡ true
@@ -97,8 +98,8 @@ module _ (d : Draft) (out : List ℕ) where
 -- octets. Place, vendor and code are 0 for the first three; the length is 0 for all" (01, The record and the writer).
 -- Carried by the laws of the writer's own refusals (proofs/Writer); for the reader's refusals the length
 -- is in demand-1-refused-write.
--- Ruled out: a writer that says 7004 only of a command that the reader accepts; one whose 7001 stands at place 1, as the
--- reader's does.
+-- Ruled out: a writer that says 7004 only of a command that the reader accepts; one whose 7001 stands at place 1, as
+-- the reader's does.
 pub demand-1-writer-order : (d : Draft) (out : List ℕ) → WriterOrder d out
 demand-1-writer-order d out =
     record {
@@ -123,12 +124,12 @@ module _ (d : Draft) (out : List ℕ) where
       let not-own : isAmong ownNumbers n ≡ false = rw long (command-not-writers (draftOctets d)) in
       record { own = λ k. not-both (isAmong ownNumbers n) (rw e at k) not-own; reader = λ k. e }
 
--- "Place, vendor and code are 0 for the first three" (01, The record and the writer), read off the number that came back: 7001,
--- 7004 and 7006 are the writer's own, also 7001, since the reader gives it to no command of at most 16,384 octets; any other
--- number comes with the reader's place, vendor and code.
+-- "Place, vendor and code are 0 for the first three" (01, The record and the writer), read off the number that came
+-- back: 7001, 7004 and 7006 are the writer's own, also 7001, since the reader gives it to no command of at most 16,384
+-- octets; any other number comes with the reader's place, vendor and code.
 -- Carried by demand-1-writer-order, command-within (numbering/Numbering) and demand-1-reader-number.
--- Ruled out: a writer that gives its own place, as the AVP's position in the draft, with a number of the reader; one whose
--- 7004 carries the missing octets as place.
+-- Ruled out: a writer that gives its own place, as the AVP's position in the draft, with a number of the reader; one
+-- whose 7004 carries the missing octets as place.
 pub demand-1-writer-values : (d : Draft) (out : List ℕ) → WriterValues d out
 unfolding writerOnlyNumbers
 demand-1-writer-values d out =

@@ -1,6 +1,6 @@
--- The name of a state: the canonical form of an accepted command (rules/specs/Canonical). The lab's second version named
--- states by the AVP texts run together, and two different commands got one name. Above each theorem: what carries it, and
--- two wrong systems that it rules out. That the program writes this form is in the contract of `canonical`.
+-- The name of a state: the canonical form of an accepted command (rules/specs/Canonical). The lab's second version
+-- named states by the AVP texts run together, and two different commands got one name. Above each theorem: what carries
+-- it, and two wrong systems that it rules out. That the program writes this form is in the contract of `canonical`.
 use mathlib.Core.Path.{_≡_, sym, ap, _∙_}
 use mathlib.Core.Logic.{_↔_}
 use mathlib.Core.List.{List}
@@ -21,8 +21,8 @@ use Rattle.rules.proofs.demands.Demands.{demand-3-commands}
 
 -- The canonical form of an accepted command is accepted, has the command's meaning and length, and is its own form.
 -- Carried by again-accepted, again-means and again-long (again/Canonical).
--- Ruled out: a name that is no command, so that it cannot be replayed against a node under test; a form that changes when
--- it is taken once more, so that a state read back from its name is a new one.
+-- Ruled out: a name that is no command, so that it cannot be replayed against a node under test; a form that changes
+-- when it is taken once more, so that a state read back from its name is a new one.
 pub state-form : (c : List ℕ) → AreOctets c → AcceptedCommand c → HasForm c
 unfolding canonicalOctets
 state-form c oct a =
@@ -40,8 +40,8 @@ state-form c oct a =
 -- Two accepted commands have the same canonical form exactly when they have the same meaning.
 -- Carried by again-means (again/Canonical): the meaning is read back from the form.
 -- Ruled out: a name of the AVP texts run together, or one that leaves out T, an identifier or the depths, so that two
--- different commands are one state and the second is never explored; a name with padding or reserved bits in it, so that
--- one state is explored again under many names.
+-- different commands are one state and the second is never explored; a name with padding or reserved bits in it, so
+-- that one state is explored again under many names.
 pub state-meaning : (a b : List ℕ) → AreOctets a → AreOctets b → AcceptedCommand a → AcceptedCommand b
     → (canonicalOctets a ≡ canonicalOctets b) ↔ (meaningOf a ≡ meaningOf b)
 unfolding canonicalOctets
@@ -63,9 +63,10 @@ state-agree a b oa ob ka kb =
 -- ---- the calls
 
 -- A call is accepted exactly when its command is and the output is no shorter than the command.
--- Carried by draft-outcome (again/RoundTrip: of the writer's tests only the room is left) and form-long (again/OwnForm).
--- Ruled out: a call that comes back with 7006 or 7001 for a command that the reader accepts; one that wants more room than
--- the command takes.
+-- Carried by draft-outcome (again/RoundTrip: of the writer's tests only the room is left) and form-long
+-- (again/OwnForm).
+-- Ruled out: a call that comes back with 7006 or 7001 for a command that the reader accepts; one that wants more room
+-- than the command takes.
 pub state-accepted : (c out : List ℕ) → AreOctets c
     → AcceptedCanonical c out ↔ (AcceptedCommand c × (length c ≤ length out))
 state-accepted c out oct = (
@@ -110,8 +111,8 @@ state-written = front-form
 -- Two accepted calls, each with an output of its own, wrote the same octets exactly when their commands have the same
 -- meaning.
 -- Carried by state-written and state-meaning.
--- Ruled out: a set of states by what was written that holds two different commands as one; one that grows with the room or
--- with what the output held before.
+-- Ruled out: a set of states by what was written that holds two different commands as one; one that grows with the room
+-- or with what the output held before.
 pub state-calls : (a b out out′ : List ℕ) → AreOctets a → AreOctets b → AcceptedCanonical a out → AcceptedCanonical b out′
     → (canonicalFront a out ≡ canonicalFront b out′) ↔ (meaningOf a ≡ meaningOf b)
 state-calls a b out out′ oa ob ka kb =

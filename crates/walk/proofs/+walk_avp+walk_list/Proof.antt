@@ -1,5 +1,5 @@
--- `walk::walk_avp` and `walk::walk_list` meet their contracts. The depth that is left falls at each group, and from the list
--- walk to its AVPs.
+-- `walk::walk_avp` and `walk::walk_list` meet their contracts. The depth that is left falls at each group, and from the
+-- list walk to its AVPs.
 use borrow.Author.Needs.{needs}
 use native.Mathlib.Omega.{arith}
 use mathlib.Core.Path.{_≡_, sym, _∙_}

@@ -1,4 +1,5 @@
--- `reader::record::avps_of` meets its contract. The places before i hold the AVPs of the log, those from i on are blank.
+-- `reader::record::avps_of` meets its contract. The places before i hold the AVPs of the log, those from i on are
+-- blank.
 use borrow.Author.Needs.{needs}
 use mathlib.Core.Path.{_≡_, sym, ap, _∙_}
 use mathlib.Core.List.{List}

@@ -1,4 +1,5 @@
--- `rows::requirements::required_in_experimental_result` meets its contract: an arm knows the position, and `_` that it is past the last.
+-- `rows::requirements::required_in_experimental_result` meets its contract: an arm knows the position, and `_` that it
+-- is past the last.
 use borrow.Author.Needs.{needs}
 use mathlib.Core.Path.{refl}
 use Rattle.rules.specs.declared.Grammar.the-variants.{ExperimentalResult}

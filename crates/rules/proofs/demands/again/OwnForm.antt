@@ -1,5 +1,5 @@
--- A command in its canonical form: what the answer of a call tells, the form of an accepted command, and that a call for it
--- answers and leaves what the writer does for the command's own record over its octets.
+-- A command in its canonical form: what the answer of a call tells, the form of an accepted command, and that a call
+-- for it answers and leaves what the writer does for the command's own record over its octets.
 use mathlib.Core.Path.{_≡_, refl, sym, ap, _∙_}
 use mathlib.Core.Bool.{Bool, true, false, _||_}
 use mathlib.Core.List.{List, [], _∷_, _++_}

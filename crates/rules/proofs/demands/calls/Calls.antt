@@ -1,5 +1,6 @@
 -- Lists of write calls (01, The record and the writer): two lists have written the same octets exactly when the
--- meanings of their accepted drafts are the same; the output after the calls is what they wrote and then what was there.
+-- meanings of their accepted drafts are the same; the output after the calls is what they wrote and then what was
+-- there.
 use mathlib.Core.Path.{_≡_, refl, sym, ap, _∙_}
 use mathlib.Core.Bool.{true, not}
 use mathlib.Core.Logic.{_↔_}

@@ -1,6 +1,6 @@
 -- The number that comes back is 0 or one of the table: the reader's, and for a draft those of the writer too. The table
--- lacks 0 but for acceptance, so the number is 0 exactly when the command, or the draft, is accepted. The reader's place,
--- vendor and code go with the number.
+-- lacks 0 but for acceptance, so the number is 0 exactly when the command, or the draft, is accepted. The reader's
+-- place, vendor and code go with the number.
 use mathlib.Core.Path.{_≡_, refl, sym, ap, _∙_}
 use mathlib.Core.Bool.{Bool, true, false, not, _&&_, _||_}
 use mathlib.Core.List.{List, _∷_}
@@ -43,7 +43,7 @@ module _ (s : List ℕ) (t : Verdict → Bool) (h : HeaderRefusals s t) (r : Avp
       in-turn t (headerOutcome s) _ (header-meets s t h)
       (lists-meet (walkOf s) (walk-meets t r (length s) dictionary s (ownList s)))
 
--- ---- the reader's test: the number is of the table, place, vendor and code go with it, and 7001 is for longer commands
+-- ---- the reader's test: a number of the table, with its place, vendor and code; and 7001 is for longer commands
 
 abbrev onlyLong : List ℕ → Verdict → Bool
 onlyLong s v = not (eqb (v .number) 7001) || ltb longestCommand (length s)

@@ -1,6 +1,6 @@
--- What a test of verdicts tells of the reader's refusals: it holds of all, if it holds of each that 01 lists, since each way
--- in which 01 joins its checks keeps it. Here the header's checks and the walk; rows and exchange rules are in ListRefusals,
--- whole commands and drafts in Numbering.
+-- What a test of verdicts tells of the reader's refusals: it holds of all, if it holds of each that 01 lists, since
+-- each way in which 01 joins its checks keeps it. Here the header's checks and the walk; rows and exchange rules are in
+-- ListRefusals, whole commands and drafts in Numbering.
 use mathlib.Core.Path.{_≡_, refl}
 use mathlib.Core.Bool.{Bool, true, false, cond, not, _||_}
 use mathlib.Core.List.{List, [], _∷_}
