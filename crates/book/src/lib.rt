@@ -12,7 +12,7 @@ ghost use Rattle.book.specs.Promise.{ListingPut, Put, PutWithin, HeadPut
 use rules::Verdict;
 use rules::limits;
 
-fn put_octet(out: &mut [u8; 262144], at: usize, octet: u8) -> usize
+fn put_octet(out: &mut [u8; limits::LISTING_ROOM], at: usize, octet: u8) -> usize
     requires { ⌜ at < room ⌝ }
     ensures { λ r. ⌜ Put (now (out .entry)) at (octet ∷ []) r (now (out .exit)) ⌝ }
 {
@@ -20,7 +20,7 @@ fn put_octet(out: &mut [u8; 262144], at: usize, octet: u8) -> usize
     at + 1
 }
 
-fn put_word(out: &mut [u8; 262144], at: usize, word: &[u8]) -> usize
+fn put_word(out: &mut [u8; limits::LISTING_ROOM], at: usize, word: &[u8]) -> usize
     requires { ⌜ at + length (now word) ≤ room ⌝ }
     ensures { λ r. ⌜ Put (now (out .entry)) at (now (word .entry)) r (now (out .exit)) ⌝ }
 {
@@ -40,7 +40,7 @@ fn digit_octet(digit: u32) -> u8
 }
 
 // The digits before the last one first.
-fn put_decimal(out: &mut [u8; 262144], at: usize, n: u32) -> usize
+fn put_decimal(out: &mut [u8; limits::LISTING_ROOM], at: usize, n: u32) -> usize
     requires { ⌜ at + length (decimal n) ≤ room ⌝ }
     ensures { λ r. ⌜ Put (now (out .entry)) at (decimal n) r (now (out .exit)) ⌝ }
 {
@@ -51,7 +51,7 @@ fn put_decimal(out: &mut [u8; 262144], at: usize, n: u32) -> usize
     put_octet(out, last, digit_octet(n % 10))
 }
 
-fn put_spaced(out: &mut [u8; 262144], at: usize, n: u32) -> usize
+fn put_spaced(out: &mut [u8; limits::LISTING_ROOM], at: usize, n: u32) -> usize
     requires { ⌜ at + 11 ≤ room ⌝ }
     ensures { λ r. ⌜ PutWithin 11 (now (out .entry)) at (spaced (n ∷ [])) r (now (out .exit)) ⌝ }
 {
@@ -60,7 +60,12 @@ fn put_spaced(out: &mut [u8; 262144], at: usize, n: u32) -> usize
 }
 
 // The start of every line of a command.
-fn put_ordinal_and_offset(out: &mut [u8; 262144], at: usize, ordinal: u32, offset: u32) -> usize
+fn put_ordinal_and_offset(
+    out: &mut [u8; limits::LISTING_ROOM],
+    at: usize,
+    ordinal: u32,
+    offset: u32,
+) -> usize
     requires { ⌜ at + 21 ≤ room ⌝ }
     ensures { λ r. ⌜ PutWithin 21 (now (out .entry)) at (decimal ordinal ++ spaced (offset ∷ [])) r (now (out .exit)) ⌝ }
 {
@@ -68,7 +73,7 @@ fn put_ordinal_and_offset(out: &mut [u8; 262144], at: usize, ordinal: u32, offse
     put_spaced(out, next, offset)
 }
 
-fn put_verdict(out: &mut [u8; 262144], at: usize, v: Verdict) -> usize
+fn put_verdict(out: &mut [u8; limits::LISTING_ROOM], at: usize, v: Verdict) -> usize
     requires { ⌜ at + 45 ≤ room ⌝ }
     ensures { λ r. ⌜ PutWithin 45 (now (out .entry)) at (spaced (v .number ∷ v .place ∷ v .vendor ∷ v .code ∷ []) ++ (newline ∷ [])) r (now (out .exit)) ⌝ }
 {
@@ -80,7 +85,7 @@ fn put_verdict(out: &mut [u8; 262144], at: usize, v: Verdict) -> usize
 }
 
 fn put_command_line(
-    out: &mut [u8; 262144],
+    out: &mut [u8; limits::LISTING_ROOM],
     at: usize,
     ordinal: u32,
     offset: u32,
@@ -93,7 +98,7 @@ fn put_command_line(
     put_verdict(out, next, v)
 }
 
-fn put_cut_line(out: &mut [u8; 262144], at: usize, ordinal: u32, offset: u32) -> usize
+fn put_cut_line(out: &mut [u8; limits::LISTING_ROOM], at: usize, ordinal: u32, offset: u32) -> usize
     requires { ⌜ at + 26 ≤ room ⌝ }
     ensures { λ r. ⌜ PutWithin 26 (now (out .entry)) at (cutLine ordinal offset) r (now (out .exit)) ⌝ }
 {
@@ -101,7 +106,12 @@ fn put_cut_line(out: &mut [u8; 262144], at: usize, ordinal: u32, offset: u32) ->
     put_word(out, next, b" cut\n")
 }
 
-fn put_end_line(out: &mut [u8; 262144], at: usize, commands: u32, accepted: u32) -> usize
+fn put_end_line(
+    out: &mut [u8; limits::LISTING_ROOM],
+    at: usize,
+    commands: u32,
+    accepted: u32,
+) -> usize
     requires { ⌜ at + 26 ≤ room ⌝ }
     ensures { λ r. ⌜ PutWithin 26 (now (out .entry)) at (endLine commands accepted) r (now (out .exit)) ⌝ }
 {
@@ -148,7 +158,7 @@ fn acceptance_of(v: Verdict) -> u32
 // The lines behind the head line: one for each command, then `end` or a cut.
 fn put_lines(
     book: &[u8],
-    out: &mut [u8; 262144],
+    out: &mut [u8; limits::LISTING_ROOM],
     start: usize,
     log: &mut [u32; limits::LOG_NUMBERS],
 ) -> usize
@@ -156,7 +166,7 @@ fn put_lines(
     ensures { λ r. ⌜ PutWithin (room - 6) (now (out .entry)) start (linesOf (now (book .entry))) r (now (out .exit)) ⌝ }
 {
     let mut at = start;
-    let mut offset: usize = 5;
+    let mut offset: usize = limits::BOOK_HEAD;
     let mut commands: u32 = 0;
     let mut accepted: u32 = 0;
     while offset < book.len() {
@@ -176,10 +186,10 @@ fn put_lines(
 fn is_book(book: &[u8]) -> bool
     ensures { λ r. ⌜ r ≡ isBook (now (book .entry)) ⌝ }
 {
-    if book.len() < 5 {
+    if book.len() < limits::BOOK_HEAD {
         return false;
     }
-    if 65536 < book.len() {
+    if limits::LONGEST_BOOK < book.len() {
         return false;
     }
     if octets::number3(book, 0) != 0x4e5442 {
@@ -189,7 +199,7 @@ fn is_book(book: &[u8]) -> bool
 }
 
 // Puts the listing of a book, whatever the octets, and returns how many octets it has.
-pub fn listing(book: &[u8], out: &mut [u8; 262144]) -> usize
+pub fn listing(book: &[u8], out: &mut [u8; limits::LISTING_ROOM]) -> usize
     ensures { λ r. ⌜ ListingPut (now (book .entry)) (now (out .entry)) r (now (out .exit)) ⌝ }
 {
     if is_book(book) {

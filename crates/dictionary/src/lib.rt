@@ -2,6 +2,7 @@
 // `match` stands for one entry.
 ghost use mathlib.Core.Path.{_≡_};
 ghost use Rattle.rules.specs.Verdict.{Answers};
+ghost use Rattle.rules.specs.Header.{vendor3GPP};
 ghost use Rattle.rules.specs.Dictionary.{find, dictionary, membersOf, rowsNumber, printed};
 ghost use Rattle.rules.specs.Meaning.{isReadGroup};
 use rules::Definition;
@@ -81,7 +82,7 @@ fn definition_without_vendor(code: u32) -> Definition
 
 // The entries of 3GPP.
 fn definition_of_3gpp(code: u32) -> Definition
-    ensures { λ r. ⌜ r ≡ find dictionary 10415 code ⌝ }
+    ensures { λ r. ⌜ r ≡ find dictionary vendor3GPP code ⌝ }
 {
     match code {
         kinds::FeatureListId::CODE => fixed(false, kinds::FeatureListId::WIDTH),
@@ -131,7 +132,7 @@ fn members_without_vendor(code: u32) -> Members
 
 // The groups of 3GPP.
 fn members_of_3gpp(code: u32) -> Members
-    ensures { λ r. ⌜ r ≡ membersOf (find dictionary 10415 code) ⌝ }
+    ensures { λ r. ⌜ r ≡ membersOf (find dictionary vendor3GPP code) ⌝ }
 {
     match code {
         kinds::SupportedFeatures::CODE => Members::Under(Grammar::SupportedFeatures),

@@ -1,6 +1,7 @@
 // The row that names an AVP in a list (01, Rows). Each arm of a `match` on the code stands for one row, which is
 // counted from 0 in the printed order.
 ghost use mathlib.Core.Path.{_≡_};
+ghost use Rattle.rules.specs.Header.{vendor3GPP};
 ghost use Rattle.rules.specs.Rows.{admitsOthers};
 ghost use Rattle.rules.specs.RowChecks.{admission};
 use rules::Admission;
@@ -39,7 +40,7 @@ fn request_without_vendor(code: u32) -> Admission
 
 // BTR: the rows of 3GPP.
 fn request_of_3gpp(code: u32) -> Admission
-    ensures { λ r. ⌜ r ≡ admission Grammar.Request 10415 code ⌝ }
+    ensures { λ r. ⌜ r ≡ admission Grammar.Request vendor3GPP code ⌝ }
 {
     match code {
         kinds::TransferRequestType::CODE => by_row(8, Mark::Once),
@@ -84,7 +85,7 @@ fn answer_without_vendor(code: u32) -> Admission
 
 // BTA: the rows of 3GPP.
 fn answer_of_3gpp(code: u32) -> Admission
-    ensures { λ r. ⌜ r ≡ admission Grammar.Answer 10415 code ⌝ }
+    ensures { λ r. ⌜ r ≡ admission Grammar.Answer vendor3GPP code ⌝ }
 {
     match code {
         kinds::ReferenceId::CODE => by_row(14, Mark::AtMostOnce),
@@ -132,7 +133,7 @@ fn row_without_vendor(grammar: Grammar, code: u32) -> Admission
 
 // The rows of each list of 3GPP.
 fn row_of_3gpp(grammar: Grammar, code: u32) -> Admission
-    ensures { λ r. ⌜ r ≡ admission grammar 10415 code ⌝ }
+    ensures { λ r. ⌜ r ≡ admission grammar vendor3GPP code ⌝ }
 {
     match grammar {
         Grammar::Request => request_of_3gpp(code),

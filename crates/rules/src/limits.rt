@@ -28,3 +28,10 @@ pub const RECORD_NUMBERS: usize = 1799;
 
 // The deepest that an AVP stands.
 pub const DEEPEST: u32 = 4;
+
+// A book: the octets of its head, the most that it has, and the room in which every listing fits.
+pub const BOOK_HEAD: usize = 5;
+
+pub const LONGEST_BOOK: usize = 65536;
+
+pub const LISTING_ROOM: usize = 262144;

@@ -5,6 +5,7 @@ ghost use Rattle.verdicts.specs.Input.{ReadWhole};
 use libc::STDERR_FILENO;
 use libc::STDIN_FILENO;
 use libc::STDOUT_FILENO;
+use rules::limits;
 
 // What came in: this many octets, with how many the last read gave; or a read that failed.
 enum Input {
@@ -35,7 +36,7 @@ fn read_input(buffer: &mut [u8]) -> Input
 
 // A listing that could not be written whole lacks at least the end of its last line, and standard error says so.
 fn print_listing(book: &[u8]) {
-    let mut out = [0u8; 262144];
+    let mut out = [0u8; limits::LISTING_ROOM];
     let length = book::listing(book, &mut out);
     if io::write_all(STDOUT_FILENO, &out[..length]) {
         return;
@@ -46,7 +47,7 @@ fn print_listing(book: &[u8]) {
 // The buffer has room for one octet more than the longest book, so that a longer one is seen to be longer. A read that
 // failed is not the end of the input: no listing follows it.
 fn main() {
-    let mut buffer = [0u8; 65537];
+    let mut buffer = [0u8; limits::LONGEST_BOOK + 1];
     let input = read_input(&mut buffer);
     match input {
         Input::Octets { count, last } => print_listing(&buffer[..count]),

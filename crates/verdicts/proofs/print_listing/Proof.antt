@@ -4,6 +4,7 @@ use Prim.Native.Nat.{ℕ}
 use native.Mathlib.Omega.{arith}
 use lib.ListN.{length-replicate}
 use lib.Seq.{length-take-le}
+use Rattle.book.specs.Promise.{room}
 use Rattle.book.proofs.Turns.{listed-length}
 use borrow.Author.Needs.{needs}
 use Rattle.verdicts.proofs.print_listing.Statement.{statement}
@@ -13,7 +14,7 @@ listing-requires : tie.Need-listing-requires
 listing-requires c κs = search needs
 
 array-share-prefix-out : tie.Need-array-share-prefix-out
-array-share-prefix-out c = omega (arith, listed-length (c .listing .ensures) ∙ length-replicate {A = ℕ} 262144 0, c .listing .ensures .within)
+array-share-prefix-out c = omega (arith, listed-length (c .listing .ensures) ∙ length-replicate {A = ℕ} room 0, c .listing .ensures .within)
 
 slice-aggregate-write-all : tie.Need-slice-aggregate-write-all
 slice-aggregate-write-all c = sym (length-take-le _ _ (array-share-prefix-out (c .before)))
