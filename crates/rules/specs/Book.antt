@@ -153,4 +153,4 @@ commandLines ordinal offset (c ∷ cs) =
 -- how many of them are accepted
 abbrev pub acceptedOf : List (List ℕ) → ℕ
 acceptedOf [] = 0
-acceptedOf (c ∷ cs) = acceptance (commandVerdict c) + acceptedOf cs
+acceptedOf (c ∷ cs) = cond (isAccepted (commandVerdict c)) 1 0 + acceptedOf cs
