@@ -18,7 +18,8 @@ from fault_tools import (COMPLETE, DOOR, FAILED, HANGING, Imitation, KIT, NOT_BU
 STAMP = "3" * 64
 OK = "echo 'rt: ok, 2 crates proved'"
 OWN_TOOLS = "basename cat dirname env find grep mktemp readlink rm rt sha256sum sort tail uname xargs".split()
-BUILD_TOOLS = ("awk chmod chown cmp cp cut date flock head id ls mkdir mv nproc sed sleep timeout tr wc").split()
+GIT_IDENTITY = ["-c", "user.name=test", "-c", "user.email=test"]
+BUILD_TOOLS = "awk chmod chown cmp cp cut date flock head id ls mkdir mv nproc sed sleep timeout tr wc".split()
 
 
 def proves(program=PROGRAM):
@@ -218,7 +219,10 @@ def signals(folder):
         check("front door, " + name, "status and output", (shell_status(started.returncode), output), (128 + number, b""))
         expect_words(name, messages, "ended by " + number.name)
         for process in (door.place / "target/started").read_text().split():
-            check("front door, " + name, "left running", is_running(process), False)
+            left = is_running(process)
+            check("front door, " + name, "left running", left, False)
+            if left:
+                os.kill(int(process), signal.SIGKILL)
         check("front door, " + name, "what is left in the temporary folder", os.listdir(door.place / "tmp"), [])
     door.rt(proves())
     built("a build after one that a signal ended", door)
@@ -282,6 +286,10 @@ def read_only(folder):
     door.rt(proves())
     if os.getuid() == 0:
         refused("a read-only checkout, not built", door.list(before=as_nobody), "cannot be written", "copy the checkout")
+        for part in ("target", "target/door"):
+            (door.place / part).chmod(0o777)
+        door.program.write_bytes(b"")
+        refused("a program that cannot be removed", door.list(before=as_nobody), "cannot be written")
         check("front door, a read-only checkout", "checks asked for", door.asked(), 0)
     door = Imitation(folder / "file")
     shutil.rmtree(door.place / "target")
@@ -383,11 +391,17 @@ def version(folder):
         check("front door, --version, " + name, "status, text and messages", (status, output.decode(), messages),
               (COMPLETE, text + "\n", b""))
     def git(*words):
-        identity = ["-c", "user.name=test", "-c", "user.email=test"]
-        done = subprocess.run(["git", "-C", door.place, *identity, *words], check=True, stdout=subprocess.PIPE)
+        done = subprocess.run(["git", "-C", door.place, *GIT_IDENTITY, *words], check=True, stdout=subprocess.PIPE)
         return done.stdout.decode().strip()
     unknown = "commit unknown (no repository, or git is missing)"
     expect_version("no repository", f"{unknown}, {proved}", env={"GIT_DIR": str(ROOT / ".git")})
+    (folder / "outer").mkdir()
+    subprocess.run(["git", "init", "--quiet", folder / "outer"], check=True)
+    subprocess.run(["git", "-C", folder / "outer", *GIT_IDENTITY, "commit", "--quiet", "--allow-empty", "--message", "outer"],
+                   check=True)
+    inner = Imitation(folder / "outer/inner", PROGRAM)
+    check("front door, --version, a folder of another repository", "text", inner.list("--version")[1].decode(),
+          f"{unknown}, {proved}\n")
     git("init", "--quiet")
     (door.place / ".gitignore").write_text("target/\n")
     git("add", ".")
