@@ -75,8 +75,9 @@ def incomplete_checks(folder):
         ("has its sources edited", f"{proves()}; echo edited >>crates/book/src/lib.rt", "changed during the check"),
         ("has its list of crates edited", f"{proves()}; echo >>crates.txt", "changed during the check"),
         # The stand-in for timeout, with which a new program is tried, exchanges it.
-        ("has its program exchanged", f"{proves()}; cp path/exchange path/timeout", "changed during the check"),
-        ("leaves no room for the record", f"{proves()}; mkdir target/door/record.new", "record"),
+        ("has its program exchanged", f"{proves()}; cp path/exchange path/timeout", "changed after the check"),
+        ("leaves no room for the record", f"{proves()}; mkdir target/door/record.new", "record cannot be written"),
+        ("leaves no room for hashes", f"{proves()}; mkdir target/door/libraries.new", "libraries cannot be written"),
     ]
     for number, (name, rt, words) in enumerate(cases):
         door = Imitation(folder / f"incomplete{number}", PROGRAM)
@@ -166,7 +167,7 @@ def libraries(folder):
         (door.place / "target/obj").mkdir()
         (door.place / "target/obj/verdicts.o").write_text("")
         change(door)
-        door.program.unlink()
+        door.program.unlink(missing_ok=True)
         door.rt(look)
         refused("a library, " + name, door.list())
         left = (door.place / "target/seen").read_text().split()
@@ -174,12 +175,22 @@ def libraries(folder):
         check("front door, a library, " + name, "removed for rt", "book" not in left and "book.rlib" not in left, not kept)
         check("front door, a library, " + name, "stamp or object of the program left",
               "verdicts" in left or os.listdir(door.place / "target/obj") != [], False)
+    def edited_meanwhile(door):
+        door.source.write_text("edited\n")
+        door.rt("echo of an edited source >target/rlib/book.rlib/code; echo >>crates/book/src/lib.rt; exit 1")
+        door.list()
+    def made_in_vain(door):
+        door.program.unlink()
+        door.rt("echo of a new library >target/rlib/book.rlib/code; exit 1")
+        door.list()
     def patch(door):
         (door.place / "target/rlib/book.rlib/code").write_text("patched\n")
     seen("as recorded", lambda door: None, True)
     seen("patched", patch, False)
     seen("with another stamp", lambda door: (door.place / "target/stamp/book").write_text(STAMP), False)
-    seen("without a record", lambda door: door.record.unlink(), False)
+    seen("without a record of it", lambda door: door.libraries.unlink(), False)
+    seen("made by a check that failed", made_in_vain, True)
+    seen("after a check with its source edited meanwhile", edited_meanwhile, False)
 
 
 def pieces_after_build(folder):
@@ -226,6 +237,15 @@ def signals(folder):
         check("front door, " + name, "what is left in the temporary folder", os.listdir(door.place / "tmp"), [])
     door.rt(proves())
     built("a build after one that a signal ended", door)
+    removing = Imitation(folder / "removing")
+    script(removing.place / "path/rm", f"case $* in *record*) : >'{removing.place}/started'; sleep 1 ;; esac\n"
+           f"exec '{shutil.which('rm')}' \"$@\"")
+    started = subprocess.Popen([removing.door, "-"], stdin=subprocess.PIPE, stdout=subprocess.PIPE, stderr=subprocess.PIPE,
+                               env={**os.environ, **removing.path})
+    wait_for(lambda: (removing.place / "started").exists())
+    started.send_signal(signal.SIGTERM)
+    _, messages = started.communicate(timeout=HANGING)
+    expect_words("SIGTERM before the build", messages, "ended by SIGTERM")
 
 
 def shell_status(status):

@@ -112,6 +112,7 @@ class Imitation:
         self.program = place / "target/bin/verdicts"
         self.stamp = place / "target/stamp/verdicts"
         self.record = place / "target/door/record"
+        self.libraries = place / "target/door/libraries"
         self.log = place / "target/door/check.log"
         self.source = place / "crates/book/src/lib.rt"
         self.path = {"PATH": f"{place}/path:{os.environ['PATH']}"}
@@ -144,7 +145,8 @@ class Imitation:
         self.record.parent.mkdir(exist_ok=True)
         self.record.write_text(
             f"crates {sha256(lines)}\ncrates.txt {sha256((self.place / 'crates.txt').read_bytes())}\nkit {KIT}\n"
-            f"program {sha256(self.program.read_bytes())}\n"
+            f"program {sha256(self.program.read_bytes())}\n")
+        self.libraries.write_text(
             f"library book {'1' * 64} {sha256(f'{code}  ./code'.encode() + bytes([10]))}\nlibrary verdicts {'2' * 64} -\n")
 
     def list(self, *arguments, env=None, **how):
