@@ -188,6 +188,7 @@ def libraries(folder):
     seen("as recorded", lambda door: None, True)
     seen("patched", patch, False)
     seen("with another stamp", lambda door: (door.place / "target/stamp/book").write_text(STAMP), False)
+    seen("without its stamp", lambda door: (door.place / "target/stamp/book").unlink(), False)
     seen("without a record of it", lambda door: door.libraries.unlink(), False)
     seen("made by a check that failed", made_in_vain, True)
     seen("after a check with its source edited meanwhile", edited_meanwhile, False)
