@@ -128,7 +128,8 @@ class Imitation:
 
     def rt(self, check, kit=KIT):
         """A stand-in that counts how often a check was asked for."""
-        script(self.place / "path/rt", f"case $1 in version) echo {kit} ;; check) echo >>target/asked\n{check}\n;; esac")
+        counted = f"echo >>target/asked\n{check}"
+        script(self.place / "path/rt", f"case $1 in version) echo {kit} ;; check) {counted}\n;; esac")
 
     def asked(self):
         asked = self.place / "target/asked"
@@ -136,18 +137,19 @@ class Imitation:
 
     def vouch(self):
         """The record of a check that proved the present program from what is here."""
-        names = sorted(f"./{path.relative_to(self.place / 'crates')}".encode()
-                       for path in (self.place / "crates").rglob("*") if path.is_file())
-        lines = b"".join(sha256((self.place / "crates" / os.fsdecode(name)).read_bytes()).encode() + b"  " + name + b"\n"
-                         for name in names)
-        code = sha256((self.place / "target/rlib/book.rlib/code").read_bytes())
+        def folder_hash(folder):
+            """Of a line for each file, by name: its hash and its name."""
+            files = sorted((f"./{path.relative_to(folder)}", path) for path in folder.rglob("*") if path.is_file())
+            return sha256("".join(f"{sha256(path.read_bytes())}  {name}\n" for name, path in files).encode())
         self.stamp.write_text("2" * 64 + "\n")
         self.record.parent.mkdir(exist_ok=True)
         self.record.write_text(
-            f"crates {sha256(lines)}\ncrates.txt {sha256((self.place / 'crates.txt').read_bytes())}\nkit {KIT}\n"
+            f"crates {folder_hash(self.place / 'crates')}\n"
+            f"crates.txt {sha256((self.place / 'crates.txt').read_bytes())}\nkit {KIT}\n"
             f"program {sha256(self.program.read_bytes())}\n")
         self.libraries.write_text(
-            f"library book {'1' * 64} {sha256(f'{code}  ./code'.encode() + bytes([10]))}\nlibrary verdicts {'2' * 64} -\n")
+            f"library book {'1' * 64} {folder_hash(self.place / 'target/rlib/book.rlib')}\n"
+            f"library verdicts {'2' * 64} -\n")
 
     def list(self, *arguments, env=None, **how):
         if not arguments:

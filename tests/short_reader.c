@@ -1,5 +1,5 @@
-// Takes LIMIT octets or more for the whole input, as a reader with a wrong loop would, and has PROGRAM list what it got.
-// For tests/door_faults.py.
+// Takes LIMIT octets or more for the whole input, as a reader with a wrong loop would, and has PROGRAM list what it
+// got. For tests/door_faults.py.
 #include <stdio.h>
 #include <unistd.h>
 
