@@ -1,0 +1,475 @@
+"""What the front door makes of a program that is not the proved one, of a build that fails, and of its environment.
+
+rt is a stand-in here (fault_tools.Imitation), so that a build takes no time; the program is the proved one or a wrong
+one.
+"""
+import fcntl
+import os
+import pathlib
+import shutil
+import signal
+import subprocess
+import threading
+import time
+
+from fault_tools import (COMPLETE, DOOR, FAILED, HANGING, Imitation, KIT, NOT_BUILT, PROGRAM, ROOT, SAMPLE,
+                         SAMPLE_LISTING, USAGE, as_nobody, check, closed, expect, expect_door, expect_sample,
+                         expect_words, longest_book, run, script, sha256)
+
+STAMP = "3" * 64
+OK = "echo 'rt: ok, 2 crates proved'"
+OWN_TOOLS = "basename cat dirname env find grep mktemp readlink rm rt sha256sum sort tail uname xargs".split()
+GIT_IDENTITY = ["-c", "user.name=test", "-c", "user.email=test"]
+BUILD_TOOLS = "awk chmod chown cmp cp cut date flock head id ls mkdir mv nproc sed sleep timeout tr wc".split()
+
+
+def proves(program=PROGRAM):
+    """A check that builds this program."""
+    return f"echo of rt\ncp '{program}' target/bin/verdicts && echo {STAMP} >target/stamp/verdicts && {OK}"
+
+
+def built(name, door, *words, **how):
+    """The sample is listed after one check, and these words are said."""
+    before = door.asked()
+    messages = expect("front door, " + name, door.list(**how), COMPLETE, SAMPLE_LISTING, SAMPLE_LISTING)
+    check("front door, " + name, "checks asked for", door.asked() - before, 1)
+    expect_words(name, messages, *words)
+    return messages
+
+
+def refused(name, result, *words):
+    """Status 4, nothing printed, and these words are said."""
+    expect_words(name, expect_door(name, result, NOT_BUILT), *words)
+
+
+def first_use(folder):
+    door = Imitation(folder / "first")
+    refused("rt fails, no program", door.list(), "not proved", str(door.log))
+    door.rt(f"echo why\n{proves()}\nexit 1")
+    refused("rt builds a program and fails", door.list(), str(door.log))
+    check("front door, rt fails", "the log has why", "why" in door.log.read_text(), True)
+    door.rt("exit 1")
+    refused("the program of that failed check is not used", door.list())
+    door.rt(proves())
+    messages = built("first use", door, "takes minutes", str(door.log), KIT, sha256(PROGRAM.read_bytes()))
+    check("front door, first use", "lines of messages", messages.count(b"\n"), 2)
+    check("front door, first use", "the checker's lines are in the log", "of rt" in door.log.read_text(), True)
+    door.rt("exit 1")
+    expect_sample("built already: rt is not asked for a check", door.list())
+    door.program.unlink()
+    door.rt(f"cat >/dev/null\n{proves()}")
+    built("rt reads its standard input", door)
+    door.program.unlink()
+    silent = door.list(before=closed(2))
+    expect("front door, a build without standard error", silent, COMPLETE, SAMPLE_LISTING, SAMPLE_LISTING)
+
+
+def incomplete_checks(folder):
+    """rt passes, and what it leaves does not bear it out."""
+    cases = [
+        ("leaves no program", f"echo {STAMP} >target/stamp/verdicts; {OK}", "left no program"),
+        ("leaves no stamp", f"cp '{PROGRAM}' target/bin/verdicts; {OK}", "left no program"),
+        ("leaves an empty stamp", f"cp '{PROGRAM}' target/bin/verdicts; : >target/stamp/verdicts; {OK}",
+         "left no program"),
+        ("does not say so", f"cp '{PROGRAM}' target/bin/verdicts; echo {STAMP} >target/stamp/verdicts", "disk full"),
+        # As rt does where it cannot write its logs: what an earlier check said of `book` is taken for this one's.
+        ("cannot write its logs", f"[ \"$(cat target/log/book.res)\" = proved ] || exit 1\n{proves()}", "not proved"),
+        ("has its sources edited", f"{proves()}; echo edited >>crates/book/src/lib.rt", "changed during the check"),
+        ("has its list of crates edited", f"{proves()}; echo >>crates.txt", "changed during the check"),
+        # The stand-in for timeout, with which a new program is tried, exchanges it.
+        ("has its program exchanged", f"{proves()}; cp path/exchange path/timeout", "changed after the check"),
+        ("leaves no room for the record", f"{proves()}; mkdir target/door/record.new", "record cannot be written"),
+        ("leaves no room for hashes", f"{proves()}; mkdir target/door/libraries.new", "libraries cannot be written"),
+    ]
+    for number, (name, rt, words) in enumerate(cases):
+        door = Imitation(folder / f"incomplete{number}", PROGRAM)
+        (door.place / "target/log/book.res").write_text("proved\n")
+        door.source.write_text("changed\n")
+        script(door.place / "path/exchange", f"echo >>'{door.program}'; shift 2; exec \"$@\"")
+        door.rt(rt)
+        refused(f"rt passes and {name}", door.list(), words)
+        door.rt("exit 1")
+        (door.place / "path/timeout").unlink(missing_ok=True)
+        refused(f"rt passes and {name}: a second start", door.list())
+
+
+def other_programs(folder):
+    """The record fits what is here, but for one thing. Times are as they were, or long past."""
+    patched = PROGRAM.read_bytes().replace((7005).to_bytes(4, "little"), (7004).to_bytes(4, "little"))
+    wrong = "is not the one that was proved"
+    for name, content in (("patched", patched), ("cut short", PROGRAM.read_bytes()[:5000]), ("empty", b""),
+                          ("built elsewhere", b"#!/bin/sh\nprintf 'NTB 1\\nend 0 0\\n'\n")):
+        door = Imitation(folder / name.replace(" ", "-"), PROGRAM)
+        exchange(door, content)
+        refused(f"a program that is {name}, and rt fails", door.list(), wrong, str(door.log))
+        shutil.copy(PROGRAM, door.program)
+        door.vouch()
+        exchange(door, content)
+        door.rt(proves())
+        built(f"a program that is {name}", door, wrong)
+    door = Imitation(folder / "planted")
+    shutil.copy(PROGRAM, door.program)
+    door.stamp.write_text(STAMP + "\n")
+    refused("a program and a stamp without a record", door.list(), "no check from here")
+    check("front door, a program and a stamp without a record", "checks asked for", door.asked(), 1)
+
+
+def exchange(door, content):
+    """The program's content, and no time that would tell."""
+    times = door.program.stat()
+    door.program.write_bytes(content)
+    os.utime(door.program, ns=(times.st_atime_ns, times.st_mtime_ns))
+    for path in (door.source, *door.source.parents[:3], door.place / "crates.txt"):
+        os.utime(path, (0, 0))
+
+
+def other_origins(folder):
+    """Sources, list of crates or kit are not those of the record; or only their times are others."""
+    def edit(door, path, text):
+        path.write_text(text)
+        os.utime(path, (0, 0))
+    cases = [
+        ("sources put back with old times", lambda d: edit(d, d.source, "older\n"), "crates/"),
+        ("a file of sources more", lambda d: edit(d, d.source.with_name("more.rt"), ""), "crates/"),
+        ("a file of sources renamed", lambda d: d.source.rename(d.source.with_name("renamed.rt")), "crates/"),
+        ("a file of sources less", lambda d: d.source.unlink(), "crates/"),
+        ("another list of crates", lambda d: edit(d, d.place / "crates.txt", "\n"), "crates.txt"),
+        ("another kit", lambda d: d.record.write_text(d.record.read_text().replace(KIT, "older")), "another kit"),
+        ("a damaged record", lambda d: d.record.write_text("damaged\n"), "damaged"),
+        ("an empty record", lambda d: d.record.write_text(""), "damaged"),
+        ("no record", lambda d: d.record.unlink(), "no check from here"),
+        ("a program without permission to run", lambda d: d.program.chmod(0o644), "may not be executed"),
+    ]
+    for number, (name, change, words) in enumerate(cases):
+        door = Imitation(folder / f"origin{number}", PROGRAM)
+        change(door)
+        door.rt("exit 1")
+        refused(name + ", and rt fails", door.list(), words)
+        check("front door, " + name, "checks asked for", door.asked(), 1)
+    door = Imitation(folder / "origin", PROGRAM)
+    edit(door, door.source, "edited\n")
+    door.rt(proves())
+    built("edited sources", door, "crates/")
+    door.rt("exit 1")
+    expect_sample("edited sources, once proved", door.list())
+    door = Imitation(folder / "times", PROGRAM)
+    for name, when in (("the future", time.time() + 10 ** 8), ("the past", 0), ("now", time.time())):
+        for path in (door.source, door.place / "crates", door.place / "crates.txt"):
+            os.utime(path, (when, when))
+        expect_sample("sources with times of " + name, door.list())
+    (door.place / "crates/link").symlink_to(PROGRAM)
+    refused("a link among the sources", door.list(), "neither file nor folder")
+
+
+def libraries(folder):
+    """rt takes a library with a fitting stamp as it is, so one that the record does not vouch for is removed first."""
+    look = "ls target/stamp target/rlib >target/seen 2>&1; exit 1"
+    def seen(name, change, kept):
+        door = Imitation(folder / ("library-" + name.replace(" ", "-")), PROGRAM)
+        (door.place / "target/obj").mkdir()
+        (door.place / "target/obj/verdicts.o").write_text("")
+        change(door)
+        door.program.unlink(missing_ok=True)
+        door.rt(look)
+        refused("a library, " + name, door.list())
+        left = (door.place / "target/seen").read_text().split()
+        check("front door, a library, " + name, "kept for rt", "book" in left and "book.rlib" in left, kept)
+        check("front door, a library, " + name, "removed for rt", not {"book", "book.rlib"} & set(left), not kept)
+        check("front door, a library, " + name, "stamp or object of the program left",
+              "verdicts" in left or os.listdir(door.place / "target/obj") != [], False)
+    def edited_meanwhile(door):
+        door.source.write_text("edited\n")
+        door.rt("echo of an edited source >target/rlib/book.rlib/code; echo >>crates/book/src/lib.rt; exit 1")
+        door.list()
+    def made_in_vain(door):
+        door.program.unlink()
+        door.rt("echo of a new library >target/rlib/book.rlib/code; exit 1")
+        door.list()
+    def patch(door):
+        (door.place / "target/rlib/book.rlib/code").write_text("patched\n")
+    seen("as recorded", lambda door: None, True)
+    seen("patched", patch, False)
+    seen("with another stamp", lambda door: (door.place / "target/stamp/book").write_text(STAMP), False)
+    seen("without its stamp", lambda door: (door.place / "target/stamp/book").unlink(), False)
+    seen("without a record of it", lambda door: door.libraries.unlink(), False)
+    seen("made by a check that failed", made_in_vain, True)
+    seen("after a check with its source edited meanwhile", edited_meanwhile, False)
+
+
+def pieces_after_build(folder):
+    """A program that takes so many octets for the whole input lists a slow book wrongly, and is refused."""
+    for limit, stops in ((1, True), (100, True), (60000, True), (65535, True), (65536, True), (65537, False)):
+        door = Imitation(folder / f"pieces{limit}")
+        reader = door.place / "reader"
+        subprocess.run(["gcc", "-Wall", "-Wextra", f"-DLIMIT={limit}", f'-DPROGRAM="{PROGRAM}"', "-o", reader,
+                        ROOT / "tests/short_reader.c"], check=True)
+        door.rt(proves(reader))
+        name = f"a program that reads up to {limit} octets"
+        if stops:
+            refused(name, door.list(), "in pieces", str(door.log))
+            check("front door, " + name, "the program is removed", door.program.exists(), False)
+        else:
+            built(name, door)
+    for name, content in (("empty", ""), ("broken", "\x7fELF"), ("silent", "#!/bin/sh\ncat >/dev/null\n")):
+        door = Imitation(folder / ("new-" + name))
+        (door.place / "new").write_text(content)
+        (door.place / "new").chmod(0o755)
+        door.rt(proves(door.place / "new"))
+        refused(f"a new program that is {name}", door.list(), "in pieces")
+
+
+def signals(folder):
+    """During the build: nothing is left running, a line is said, and the status is the signal's."""
+    for number in (signal.SIGTERM, signal.SIGINT, signal.SIGHUP, signal.SIGQUIT):
+        door = Imitation(folder / f"signal{int(number)}")
+        (door.place / "tmp").mkdir()
+        door.rt("sleep 1000 & echo $$ $! >target/started.new; mv target/started.new target/started; sleep 1001")
+        started = start(door, TMPDIR=str(door.place / "tmp"))
+        wait_for(lambda: (door.place / "target/started").exists())
+        started.send_signal(number)
+        output, messages = started.communicate(timeout=HANGING)
+        name = f"{number.name} during the build"
+        check("front door, " + name, "status", shell_status(started.returncode), 128 + number)
+        check("front door, " + name, "output", output, b"")
+        expect_words(name, messages, "ended by " + number.name)
+        for process in (door.place / "target/started").read_text().split():
+            left = is_running(process)
+            check("front door, " + name, "left running", left, False)
+            if left:
+                os.kill(int(process), signal.SIGKILL)
+        check("front door, " + name, "what is left in the temporary folder", os.listdir(door.place / "tmp"), [])
+    door.rt(proves())
+    built("a build after one that a signal ended", door)
+    removing = Imitation(folder / "removing")
+    script(removing.place / "path/rm", f"case $* in *record*) : >'{removing.place}/started'; sleep 1 ;; esac\n"
+           f"exec '{shutil.which('rm')}' \"$@\"")
+    started = start(removing)
+    wait_for(lambda: (removing.place / "started").exists())
+    started.send_signal(signal.SIGTERM)
+    _, messages = started.communicate(timeout=HANGING)
+    expect_words("SIGTERM before the build", messages, "ended by SIGTERM")
+
+
+def start(door, **env):
+    return subprocess.Popen([door.door, "-"], stdin=subprocess.PIPE, stdout=subprocess.PIPE, stderr=subprocess.PIPE,
+                            env={**os.environ, **door.path, **env})
+
+
+def shell_status(status):
+    """As a shell shows it: 128 + n for signal n."""
+    return status if status >= 0 else 128 - status
+
+
+def is_running(process):
+    try:
+        return pathlib.Path(f"/proc/{process}/stat").read_text().rpartition(")")[2].split()[0] != "Z"
+    except FileNotFoundError:
+        return False
+
+
+def wait_for(condition):
+    began = time.monotonic()
+    while not condition():
+        time.sleep(0.01)
+        if time.monotonic() - began > HANGING:
+            raise TimeoutError("what was waited for did not come")
+
+
+def standing_reader(folder):
+    """A signal while the listing, longer than the pipe, waits for its reader."""
+    (folder / "longest.ntb").write_bytes(longest_book()[0])
+    reading, writing = os.pipe()
+    fcntl.fcntl(writing, fcntl.F_SETPIPE_SZ, 4096)
+    started = subprocess.Popen([DOOR, folder / "longest.ntb"], stdout=writing, stderr=subprocess.PIPE)
+    os.close(writing)
+    os.read(reading, 10)
+    started.send_signal(signal.SIGTERM)
+    try:
+        check("front door, SIGTERM while the reader stands still", "status", started.wait(10), -signal.SIGTERM)
+    except subprocess.TimeoutExpired:
+        check("front door, SIGTERM while the reader stands still", "it ends", False, True)
+    os.close(reading)
+    started.communicate(timeout=HANGING)
+
+
+def two_at_once(folder):
+    door = Imitation(folder / "twice")
+    door.rt(f"sleep 0.5\n{proves()}")
+    results = []
+    starts = [threading.Thread(target=lambda: results.append(door.list())) for _ in range(2)]
+    for start in starts:
+        start.start()
+    for start in starts:
+        start.join()
+    for result in results:
+        expect("front door, two first uses at once", result, COMPLETE, SAMPLE_LISTING, SAMPLE_LISTING)
+    check("front door, two first uses at once", "checks asked for", door.asked(), 1)
+
+
+def read_only(folder):
+    door = Imitation(folder / "read-only", PROGRAM)
+    expect_sample("a read-only checkout, proved", door.list(before=as_nobody))
+    door.program.unlink()
+    door.rt(proves())
+    if os.getuid() == 0:
+        refused("a read-only checkout, not built", door.list(before=as_nobody), "cannot be written", "copy the")
+        for part in ("target", "target/door"):
+            (door.place / part).chmod(0o777)
+        door.program.write_bytes(b"")
+        refused("a program that cannot be removed", door.list(before=as_nobody), "cannot be written")
+        check("front door, a read-only checkout", "checks asked for", door.asked(), 0)
+    door = Imitation(folder / "file")
+    shutil.rmtree(door.place / "target")
+    (door.place / "target").write_text("")
+    refused("a file in the place of target/", door.list(), "cannot be written")
+
+
+def tools(folder):
+    """A path that lacks a tool, with the program built, and with the program to be built."""
+    door = Imitation(folder / "tools", PROGRAM)
+    path = door.place / "lacking"
+    path.mkdir()
+    for tool in {*OWN_TOOLS, *BUILD_TOOLS} - {"rt"}:
+        (path / tool).symlink_to(shutil.which(tool))
+    (path / "rt").symlink_to(door.place / "path/rt")
+    env = {"PATH": str(path)}
+    expect_sample("a path with these tools alone", door.list(env=env))
+    def without(tool, name):
+        (path / tool).rename(path / "away")
+        refused(f"{name} without {tool} on the path", door.list(env=env), f"{tool} is needed and not on the path")
+        (path / "away").rename(path / tool)
+    for tool in OWN_TOOLS:
+        without(tool, "a listing")
+    refused("an empty path", run([door.door, "-"], book=SAMPLE, env={"PATH": ""}), "not on the path")
+    door.program.unlink()
+    for tool in BUILD_TOOLS:
+        without(tool, "a build")
+    check("front door, a path that lacks a tool", "checks asked for", door.asked(), 0)
+    door.rt(proves())
+    built("a build with these tools alone", door, env=env)
+
+
+def functions(body, *names):
+    """Functions that bash takes from its environment."""
+    return {f"BASH_FUNC_{name}%%": "() { " + body + "; }" for name in names}
+
+
+def environment(folder):
+    """Nothing in the environment switches the script off, or comes to rt."""
+    door = Imitation(folder / "environment", PROGRAM)
+    script(door.place / "startup", "exit 0")
+    startup = str(door.place / "startup")
+    environments = [
+        {"SHELLOPTS": "noexec"}, {"SHELLOPTS": "errexit:noglob:nounset:posix:verbose"}, {"BASH_ENV": startup},
+        {"ENV": startup}, {"POSIXLY_CORRECT": "1"}, {"IFS": "0123456789/abcdefghijklmnopqrstuvwxyz"}, {"CDPATH": "/"},
+        {"BASHOPTS": "failglob:expand_aliases:nocasematch"}, {"GLOBIGNORE": "*"}, {"LC_ALL": "C.UTF-8"},
+        functions("exit 0", "cat", "exec", "exit", "printf", "set", "unset", "trap", "wait", "type", "local", "["),
+        functions("true", "rm", "tail", "read", "mktemp", "sha256sum", "find", "give_up", "judge"),
+    ]
+    for env in environments:
+        expect_sample("an environment with " + ", ".join(env), door.list(env=env))
+    door.program.unlink()
+    door.rt(f"env >target/environment\n{proves()}")
+    built("a build in a strange environment", door, env={**environments[0], **environments[-1], "STRANGE": "1"})
+    names = {line.partition("=")[0] for line in (door.place / "target/environment").read_text().splitlines()}
+    check("front door, a build in a strange environment", "variables of rt", names - {"PWD", "OLDPWD", "SHLVL", "_"},
+          {"PATH", "HOME", "TMPDIR", "RATTLE_HOME", "RT_JOBS", "RT_CUT", "GIT_OPTIONAL_LOCKS", "LC_ALL"})
+
+
+def shells(folder):
+    """The script handed to a shell by name, or called by a link."""
+    door = Imitation(folder / "shells", PROGRAM)
+    book = ROOT / "books/sample.ntb"
+    for shell in (["sh"], ["dash"], ["bash"], ["bash", "--posix"]):
+        if shutil.which(shell[0]):
+            expect_sample("called by " + " ".join(shell), run([*shell, door.door, book], env=door.path))
+            expect_sample("called from its folder by " + " ".join(shell),
+                          run([*shell, "verdicts", book], env=door.path, cwd=door.place))
+    env = {**door.path, **functions("exit 0", "exec", "command", "builtin", "printf")}
+    expect_sample("called by bash with functions of the environment", run(["bash", door.door, book], env=env))
+    status, output, _ = run(["bash", door.door, book], env={**door.path, "SHELLOPTS": "noexec"})
+    check("front door, called by bash under noexec", "another status than 0", status != 0, True)
+    check("front door, called by bash under noexec", "output", output, b"")
+    (door.place / "link").symlink_to(door.door)
+    expect_sample("called by a link", run([door.place / "link", book], env=door.path))
+
+
+def no_listing_file(folder):
+    door = Imitation(folder / "unlisted", PROGRAM)
+    (door.place / "made/listing").mkdir(parents=True)
+    script(door.place / "path/mktemp", f"echo '{door.place}/made'")
+    name = "a listing file that cannot be made"
+    expect_words(name, expect_door(name, door.list(), FAILED), "no file for the listing", "TMPDIR")
+
+
+def arguments(folder):
+    (folder / "-dash.ntb").write_bytes(SAMPLE)
+    (folder / "--help").write_bytes(SAMPLE)
+    name = "a name that begins with a dash"
+    expect_words(name, expect_door(name, run([DOOR, "-dash.ntb"], cwd=folder), USAGE), "./verdicts -- -dash.ntb")
+    expect_sample(name + ", after --", run([DOOR, "--", "-dash.ntb"], cwd=folder))
+    expect_sample("--help after --", run([DOOR, "--", "--help"], cwd=folder))
+    expect_sample("- after --", run([DOOR, "--", "-"], book=SAMPLE))
+    expect_sample("an ordinary name after --", run([DOOR, "--", ROOT / "books/sample.ntb"]))
+    for arguments in (["--"], ["--", "-", "-"], ["-", "--"], ["--version", "-"], ["--help", "-"]):
+        expect_door("arguments " + " ".join(arguments), run([DOOR, *arguments], book=SAMPLE), USAGE)
+    alone = folder / "alone"
+    alone.mkdir()
+    shutil.copy(DOOR, alone / "verdicts")
+    refused("a script without its checkout", run([alone / "verdicts", "-"], book=SAMPLE), "whole checkout")
+
+
+def version(folder):
+    door = Imitation(folder / "version", PROGRAM)
+    proved = f"kit {KIT}, program {sha256(PROGRAM.read_bytes())}"
+    def expect_version(name, text, **how):
+        status, output, messages = door.list("--version", **how)
+        check("front door, --version, " + name, "status, text and messages", (status, output.decode(), messages),
+              (COMPLETE, text + "\n", b""))
+    def git(*words):
+        done = subprocess.run(["git", "-C", door.place, *GIT_IDENTITY, *words], check=True, stdout=subprocess.PIPE)
+        return done.stdout.decode().strip()
+    unknown = "commit unknown (no repository, or git is missing)"
+    expect_version("no repository", f"{unknown}, {proved}", env={"GIT_DIR": str(ROOT / ".git")})
+    (folder / "outer").mkdir()
+    subprocess.run(["git", "init", "--quiet", folder / "outer"], check=True)
+    words = ["commit", "--quiet", "--allow-empty", "--message", "outer"]
+    subprocess.run(["git", "-C", folder / "outer", *GIT_IDENTITY, *words], check=True)
+    inner = Imitation(folder / "outer/inner", PROGRAM)
+    check("front door, --version, a folder of another repository", "text", inner.list("--version")[1].decode(),
+          f"{unknown}, {proved}\n")
+    git("init", "--quiet")
+    (door.place / ".gitignore").write_text("target/\n")
+    git("add", ".")
+    git("commit", "--quiet", "--message", "test")
+    commit = git("rev-parse", "HEAD")
+    expect_version("a clean tree", f"commit {commit} (clean), {proved}")
+    (door.place / "more").write_text("")
+    expect_version("a tree with changes", f"commit {commit} (with changes), {proved}")
+    door.source.write_text("changed\n")
+    doubt = "not proved here: crates/ or crates.txt is not what was proved"
+    expect_version("changed sources", f"commit {commit} (with changes), {proved} ({doubt})")
+    door.program.unlink()
+    expect_version("no program", f"commit {commit} (with changes), kit {KIT}, program not built")
+    check("front door, --version", "checks asked for", door.asked(), 0)
+    with open("/dev/full", "wb") as full:
+        expect_door("--version to a full output", door.list("--version", stdout=full), FAILED)
+
+
+def try_all(folder):
+    first_use(folder)
+    incomplete_checks(folder)
+    other_programs(folder)
+    other_origins(folder)
+    libraries(folder)
+    pieces_after_build(folder)
+    signals(folder)
+    standing_reader(folder)
+    two_at_once(folder)
+    read_only(folder)
+    tools(folder)
+    environment(folder)
+    shells(folder)
+    no_listing_file(folder)
+    arguments(folder)
+    version(folder)
