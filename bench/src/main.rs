@@ -1,8 +1,10 @@
-//! Measures the proved reader and the second reader side by side, in one run and on the same generated commands, and reports
-//! ratios: the proved reader's time over the second reader's. A ratio below 1 says that the proved reader is faster.
+//! Measures the proved reader and the second reader side by side, in one run and on the same generated commands, and
+//! reports ratios: the proved reader's time over the second reader's. A ratio below 1 says that the proved reader is
+//! faster.
 //!
-//! `bench [SEED]`. The commands are of three sizes, accepted and refused apart. Rounds are interleaved, so that what else the
-//! computer does meets both; a ratio is of the two times of one round, and its median and range over the rounds are printed.
+//! `bench [SEED]`. The commands are of three sizes, accepted and refused apart. Rounds are interleaved, so that what
+//! else the computer does meets both; a ratio is of the two times of one round, and its median and range over the
+//! rounds are printed.
 
 use std::hint::black_box;
 use std::time::{Duration, Instant};
@@ -13,7 +15,9 @@ const ROUNDS: usize = 21;
 
 fn main() {
     let seed = std::env::args().nth(1).and_then(|word| word.parse().ok()).unwrap_or(bench::SEED);
-    println!("seed {seed}, {ROUNDS} rounds; ratio of times, proved reader to second reader: median (least to greatest)");
+    println!(
+        "seed {seed}, {ROUNDS} rounds; ratio of times, proved reader to second reader: median (least to greatest)"
+    );
     for (name, commands) in bench::mixes(seed) {
         let verdicts = rounds(&commands, ours(), |octets| {
             black_box(second_reader::verdict(octets));
@@ -51,11 +55,7 @@ fn ours() -> impl FnMut(&[u8]) {
 }
 
 /// The ratio of each round.
-fn rounds(
-    commands: &[Vec<u8>],
-    mut ours: impl FnMut(&[u8]),
-    mut theirs: impl FnMut(&[u8]),
-) -> Vec<f64> {
+fn rounds(commands: &[Vec<u8>], mut ours: impl FnMut(&[u8]), mut theirs: impl FnMut(&[u8])) -> Vec<f64> {
     let octets: usize = commands.iter().map(Vec::len).sum();
     let times = OCTETS.div_ceil(octets);
     let mut ratios = Vec::new();

@@ -9,7 +9,9 @@ fn main() {
     println!("cargo:rerun-if-changed={}", archive.display());
     if !archive.exists() {
         eprintln!("The proved archive {} is missing.", archive.display());
-        eprintln!("Run `rt staticlib boundary` in the repository's top folder; it proves the crate and writes the archive.");
+        eprintln!(
+            "Run `rt staticlib boundary` in the repository's top folder; it proves the crate and writes the archive."
+        );
         std::process::exit(1);
     }
     println!("cargo:rustc-link-search=native={}", folder.display());

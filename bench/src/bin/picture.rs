@@ -1,5 +1,5 @@
-//! Draws the bench's figures: `picture < FIGURES > PICTURE`. It reads what `bench` printed and writes an SVG with a bar for each
-//! ratio's median, a line for its range, and an upright line where both readers need the same time.
+//! Draws the bench's figures: `picture < FIGURES > PICTURE`. It reads what `bench` printed and writes an SVG with a bar
+//! for each ratio's median, a line for its range, and an upright line where both readers need the same time.
 
 use std::fmt::Write;
 use std::io::Read;

@@ -1,5 +1,5 @@
-//! Reads a command in hex from the command line, gives it the hop-by-hop identifier that stands before it, writes it, and
-//! prints the written command in hex; for a refused command its verdict.
+//! Reads a command in hex from the command line, gives it the hop-by-hop identifier that stands before it, writes it,
+//! and prints the written command in hex; for a refused command its verdict.
 //!
 //! `cargo run --example rewrite -- 7 010000A0C080007301000084 ..`
 
@@ -11,7 +11,9 @@ fn main() -> ExitCode {
     let words: Vec<String> = std::env::args().skip(1).collect();
     let arguments = words.split_first().and_then(|(first, rest)| Some((first.parse().ok()?, hex::octets_of(rest)?)));
     let Some((identifier, octets)) = arguments else {
-        eprintln!("usage: rewrite IDENTIFIER HEX.. (a hop-by-hop identifier, then a command, two hex digits for each octet)");
+        eprintln!(
+            "usage: rewrite IDENTIFIER HEX.. (a hop-by-hop identifier, then a command, two hex digits for each octet)"
+        );
         return ExitCode::FAILURE;
     };
     let mut record = match talazumir::read(&octets) {

@@ -1,5 +1,5 @@
-//! A set of states by their canonical octets. Reads commands in hex from the command line, one an argument, and says of each
-//! which state it is; a new state with its name, a refused command with its verdict.
+//! A set of states by their canonical octets. Reads commands in hex from the command line, one an argument, and says of
+//! each which state it is; a new state with its name, a refused command with its verdict.
 //!
 //! `cargo run --example states -- 010000A0C080007301000084.. 010000A0CF80007301000084..`
 

@@ -1,5 +1,5 @@
-//! Reads a command in hex from the command line, prints its verdict and, where it is accepted, its AVPs: position, depth,
-//! vendor, code, M, P and data.
+//! Reads a command in hex from the command line, prints its verdict and, where it is accepted, its AVPs: position,
+//! depth, vendor, code, M, P and data.
 //!
 //! `cargo run --example verdict -- 01000014C080007301000084 0000000100000002`
 
@@ -23,14 +23,7 @@ fn main() -> ExitCode {
     println!("0 0 0 0");
     for (position, avp) in record.avps().enumerate() {
         let data = hex::text_of(record.data(position, &octets));
-        println!(
-            "{position} {} {} {} {} {} {data}",
-            avp.depth,
-            avp.vendor,
-            avp.code,
-            u8::from(avp.m),
-            u8::from(avp.p)
-        );
+        println!("{position} {} {} {} {} {} {data}", avp.depth, avp.vendor, avp.code, u8::from(avp.m), u8::from(avp.p));
     }
     ExitCode::SUCCESS
 }

@@ -18,9 +18,10 @@ extern "C" {
     fn talazumir_canonical(octets: *const u8, length: usize, out: *mut u8, room: usize) -> Written;
 }
 
-// Each call below is sound for the same reasons. The pointers come from references, so they are not null and live through
-// the call; slices pass with their own lengths, arrays have the lengths of their types; `&mut` overlaps nothing else. The
-// functions have no precondition on contents, are proved to read and write within these bounds, and keep no pointer.
+// Each call below is sound for the same reasons. The pointers come from references, so they are not null and live
+// through the call; slices pass with their own lengths, arrays have the lengths of their types; `&mut` overlaps nothing
+// else. The functions have no precondition on contents, are proved to read and write within these bounds, and keep no
+// pointer.
 
 pub(crate) fn verdict(octets: &[u8], log: &mut [u32; LOG_NUMBERS]) -> Verdict {
     // SAFETY: the slice is read, the log of 1,792 numbers written; see above.

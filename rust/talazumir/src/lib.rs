@@ -1,7 +1,7 @@
 //! The proved reader and writer of Nt commands (TS 29.154, Background-Data-Transfer request and answer) as safe Rust.
 //!
-//! The answers come from the archive that `rt staticlib boundary` proves and builds; this crate only hands over slices and
-//! arrays. `include/talazumir.h` has the table of verdict numbers.
+//! The answers come from the archive that `rt staticlib boundary` proves and builds; this crate only hands over slices
+//! and arrays. `include/talazumir.h` has the table of verdict numbers.
 //!
 //! ```
 //! // A header alone lacks its Session-Id (263) at octet 20.
@@ -10,9 +10,9 @@
 //! assert_eq!((refusal.number, refusal.place, refusal.vendor, refusal.code), (5005, 20, 0, 263));
 //! ```
 //!
-//! A record over lent octets is a draft, which [`write`] turns into a command; `examples/rewrite.rs` reads a command, gives
-//! it another hop-by-hop identifier and writes it. [`canonical`] writes a command in the one form that all commands of its
-//! meaning share; `examples/states.rs` keeps a set of states by it.
+//! A record over lent octets is a draft, which [`write`] turns into a command; `examples/rewrite.rs` reads a command,
+//! gives it another hop-by-hop identifier and writes it. [`canonical`] writes a command in the one form that all
+//! commands of its meaning share; `examples/states.rs` keeps a set of states by it.
 
 #![deny(unsafe_code)]
 
@@ -108,8 +108,8 @@ impl Record {
         Record { numbers: Box::new(numbers) }
     }
 
-    /// The numbers: R, P, E, T, hop-by-hop, end-to-end, count; then for each of 256 positions depth, vendor, code, M, P,
-    /// start and length.
+    /// The numbers: R, P, E, T, hop-by-hop, end-to-end, count; then for each of 256 positions depth, vendor, code, M,
+    /// P, start and length.
     pub fn numbers(&self) -> &[u32; RECORD_NUMBERS] {
         &self.numbers
     }
@@ -197,24 +197,25 @@ pub fn read(octets: &[u8]) -> Result<Record, Verdict> {
     }
 }
 
-/// Writes a draft, which is the record over the lent octets, as a command to the start of the output. The first that applies
-/// is the answer: 7006 for a malformed draft, 7001 for a command of more than 16,384 octets, 7004 for one that is longer than
-/// the output, then the refusal that [`read`] gives to the command. A refusal leaves the whole output as it was, an acceptance
-/// what lies past the length.
+/// Writes a draft, which is the record over the lent octets, as a command to the start of the output. The first that
+/// applies is the answer: 7006 for a malformed draft, 7001 for a command of more than 16,384 octets, 7004 for one that
+/// is longer than the output, then the refusal that [`read`] gives to the command. A refusal leaves the whole output as
+/// it was, an acceptance what lies past the length.
 ///
-/// `include/talazumir.h` says when a draft is malformed. The record of an accepted command over the command's octets, given
-/// room, is accepted.
+/// `include/talazumir.h` says when a draft is malformed. The record of an accepted command over the command's octets,
+/// given room, is accepted.
 pub fn write(record: &Record, octets: &[u8], out: &mut [u8]) -> Written {
     boundary::write(&record.numbers, octets, out)
 }
 
-/// Writes a command in its canonical form to the start of the output: its own record, written over its octets, so that padding
-/// and reserved bits are 0. The refusal that [`read`] gives to the command is the answer, else 7004 where the output is shorter
-/// than the command. A refusal leaves the whole output as it was, an acceptance what lies past the length.
+/// Writes a command in its canonical form to the start of the output: its own record, written over its octets, so that
+/// padding and reserved bits are 0. The refusal that [`read`] gives to the command is the answer, else 7004 where the
+/// output is shorter than the command. A refusal leaves the whole output as it was, an acceptance what lies past the
+/// length.
 ///
-/// The form is an accepted command with the command's meaning and length, and its own form. Two accepted commands have the same
-/// form exactly where they have the same meaning, that is, where they agree in every octet outside padding and the four
-/// reserved command bits: so it names a state.
+/// The form is an accepted command with the command's meaning and length, and its own form. Two accepted commands have
+/// the same form exactly where they have the same meaning, that is, where they agree in every octet outside padding and
+/// the four reserved command bits: so it names a state.
 ///
 /// ```
 /// // A refusal, here of a header without its Session-Id (263), leaves the output as it was.
@@ -245,8 +246,8 @@ impl Reader {
         boundary::verdict(octets, &mut self.log)
     }
 
-    /// The log: the AVPs that the last walk met, up to a fault, seven numbers for each: depth, vendor, code, M, P, start and
-    /// end of the data. Behind them stands what earlier walks left.
+    /// The log: the AVPs that the last walk met, up to a fault, seven numbers for each: depth, vendor, code, M, P,
+    /// start and end of the data. Behind them stands what earlier walks left.
     pub fn log(&self) -> &[u32; LOG_NUMBERS] {
         &self.log
     }

@@ -1,5 +1,5 @@
-//! The canonical form of a command through the safe function: one for all commands of a meaning, another for another, and what
-//! each room and each refusal leaves.
+//! The canonical form of a command through the safe function: one for all commands of a meaning, another for another,
+//! and what each room and each refusal leaves.
 
 use talazumir::{canonical, read, Verdict, Written};
 
@@ -56,8 +56,8 @@ fn each_other_bit_of_an_accepted_command_is() {
             }
         }
     }
-    // T; both identifiers; P of the 11 AVPs; the octet of each of the 6 strings; 266 and 4208, of any value; and each string's
-    // length made 3, so that two octets of padding become data.
+    // T; both identifiers; P of the 11 AVPs; the octet of each of the 6 strings; 266 and 4208, of any value; and each
+    // string's length made 3, so that two octets of padding become data.
     assert_eq!(accepted, 1 + 64 + 11 + 6 * 8 + 32 + 32 + 6);
 }
 

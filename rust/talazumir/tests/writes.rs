@@ -69,9 +69,11 @@ fn refusals_leave_the_output() {
         assert_eq!(refusal(s_numbers(), &S, room), refused(7004, 0, 0, 0));
     }
     assert_eq!(refusal([u32::MAX; RECORD_NUMBERS], &S, 200), refused(7006, 0, 0, 0));
-    // Empty octets; flags that are no bit, a count, depths, a group's length, a part that leaves the octets, the last place.
+    // Empty octets; flags that are no bit, a count, depths, a group's length, a part that leaves the octets, the last
+    // place.
     assert_eq!(refusal(s_numbers(), &[], 200), refused(7006, 0, 0, 0));
-    for (at, number) in [(0, 2), (3, 2), (6, 257), (7, 0), (7, 2), (20, 11), (20, 13), (82, 160), (1792, 1), (1798, 1)] {
+    for (at, number) in [(0, 2), (3, 2), (6, 257), (7, 0), (7, 2), (20, 11), (20, 13), (82, 160), (1792, 1), (1798, 1)]
+    {
         let mut numbers = s_numbers();
         numbers[at] = number;
         assert_eq!(refusal(numbers, &S, 200), refused(7006, 0, 0, 0));

@@ -1,8 +1,8 @@
-//! Compares the proved reader, over its boundary, with the second reader on generated commands: the verdict, the whole record,
-//! the data of every position and the search.
+//! Compares the proved reader, over its boundary, with the second reader on generated commands: the verdict, the whole
+//! record, the data of every position and the search.
 //!
-//! `compare SEED COMMANDS` ends with a table of what was reached. It exits 1 at the first difference, with the command in
-//! hexadecimal, or where a cell of the table is empty.
+//! `compare SEED COMMANDS` ends with a table of what was reached. It exits 1 at the first difference, with the command
+//! in hexadecimal, or where a cell of the table is empty.
 
 use second_reader::coverage::Coverage;
 use second_reader::generate::{command, Prng};
@@ -10,16 +10,8 @@ use std::fmt::Debug;
 use std::process::ExitCode;
 
 /// Names that are looked for in every command: of both commands' lists, of groups alone, and of no AVP.
-const NAMES: [(u32, u32); 8] = [
-    (0, 263),
-    (0, 268),
-    (0, 266),
-    (0, 4203),
-    (10415, 4203),
-    (10415, 4205),
-    (10415, 4207),
-    (9, 9),
-];
+const NAMES: [(u32, u32); 8] =
+    [(0, 263), (0, 268), (0, 266), (0, 4203), (10415, 4203), (10415, 4205), (10415, 4207), (9, 9)];
 
 fn main() -> ExitCode {
     let arguments: Vec<String> = std::env::args().skip(1).collect();
@@ -77,9 +69,7 @@ fn compare(octets: &[u8], reader: &mut talazumir::Reader) -> Result<(), String> 
             same("number", 0, expected.verdict.number)?;
             compare_records(&record, &expected.record, octets)
         }
-        Err(refusal) => {
-            same("refusal", (refusal.number, refusal.place, refusal.vendor, refusal.code), verdict)
-        }
+        Err(refusal) => same("refusal", (refusal.number, refusal.place, refusal.vendor, refusal.code), verdict),
     }
 }
 
@@ -87,11 +77,7 @@ fn numbers(verdict: &second_reader::Verdict) -> (u32, u32, u32, u32) {
     (verdict.number, verdict.place, verdict.vendor, verdict.code)
 }
 
-fn compare_records(
-    ours: &talazumir::Record,
-    expected: &second_reader::Record,
-    octets: &[u8],
-) -> Result<(), String> {
+fn compare_records(ours: &talazumir::Record, expected: &second_reader::Record, octets: &[u8]) -> Result<(), String> {
     same("R", ours.is_request(), expected.r)?;
     same("P", ours.is_proxiable(), expected.p)?;
     same("E", ours.is_error(), expected.e)?;

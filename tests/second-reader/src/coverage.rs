@@ -142,8 +142,8 @@ impl Display for Coverage {
     }
 }
 
-/// Whether the AVP at fault is known, has a fixed width and lies whole in the command, so that its width is at fault; an AVP
-/// that only its list cuts off may pass for one.
+/// Whether the AVP at fault is known, has a fixed width and lies whole in the command, so that its width is at fault;
+/// an AVP that only its list cuts off may pass for one.
 fn fits(octets: &[u8], verdict: &Verdict) -> bool {
     let place = verdict.place as usize;
     AvpHeader::read(&octets[place..], place).is_ok_and(|header| {
@@ -179,8 +179,7 @@ fn scan(octets: &[u8], verdict: &Verdict, depth: u8, from: usize, to: usize, fou
             break;
         };
         has |= header.vendor == verdict.vendor && header.code == verdict.code;
-        let group =
-            Kind::of(header.vendor, header.code).is_some_and(|k| rows::of_group(k).is_some());
+        let group = Kind::of(header.vendor, header.code).is_some_and(|k| rows::of_group(k).is_some());
         if group && depth < 4 {
             inner.push((at + header.size, at + header.length));
         }

@@ -157,10 +157,7 @@ fn s_and_its_neighbours() {
     assert_eq!(record.avps.len(), 11);
     assert_eq!((record.r, record.p, record.e, record.t), (true, true, false, false));
     assert_eq!((record.hop_by_hop, record.end_to_end), (1, 2));
-    assert_eq!(
-        record.avps[2],
-        Avp { depth: 2, vendor: 0, code: 266, m: true, p: false, start: 48, length: 4 }
-    );
+    assert_eq!(record.avps[2], Avp { depth: 2, vendor: 0, code: 266, m: true, p: false, start: 48, length: 4 });
     let mut list = s_list();
     list.pop();
     assert_eq!(judge(&command(0xC0, &list)), (5005, 144, TGPP, 4208));
@@ -171,9 +168,7 @@ fn s_and_its_neighbours() {
 
 #[test]
 fn windows() {
-    for (start, end, accepted) in
-        [(10, 10, false), (10, 11, true), (11, 10, false), (0x7FFF_FFFF, 0x8000_0000, true)]
-    {
+    for (start, end, accepted) in [(10, 10, false), (10, 11, true), (11, 10, false), (0x7FFF_FFFF, 0x8000_0000, true)] {
         let mut list = s_list();
         list.push(window(start, end));
         let expected = if accepted { (0, 0, 0, 0) } else { (5004, 188, TGPP, 4205) };
@@ -213,8 +208,7 @@ fn limits() {
 
 #[test]
 fn depth() {
-    let proxy =
-        |inner: &[u8]| plain(284, &[plain(280, b"h"), plain(33, b"s"), inner.to_vec()].concat());
+    let proxy = |inner: &[u8]| plain(284, &[plain(280, b"h"), plain(33, b"s"), inner.to_vec()].concat());
     let with = |group: Vec<u8>| {
         let mut list = s_list();
         list.push(group);

@@ -153,11 +153,8 @@ fn parts() {
     for (start, length) in [(21, 0), (20, 1), (0, 21), (7, 14)] {
         assert_eq!(answer(&behind(start, length), LENT)[0], 0, "{start} {length}");
     }
-    let far =
-        [(u32::MAX, 0), (u32::MAX, 1), (0, u32::MAX), (u32::MAX, u32::MAX), (1 << 31, 1 << 31)];
-    for (start, length) in
-        [(22, 0), (21, 1), (0, 22), (8, 14), (5, u32::MAX - 4)].into_iter().chain(far)
-    {
+    let far = [(u32::MAX, 0), (u32::MAX, 1), (0, u32::MAX), (u32::MAX, u32::MAX), (1 << 31, 1 << 31)];
+    for (start, length) in [(22, 0), (21, 1), (0, 22), (8, 14), (5, u32::MAX - 4)].into_iter().chain(far) {
         assert_eq!(answer(&behind(start, length), LENT), MALFORMED, "{start} {length}");
     }
     assert_eq!(answer(&s_draft(), &LENT[..17]), MALFORMED);
@@ -174,9 +171,7 @@ fn depths() {
         draft.places[at].depth = depth;
         answer(&draft, LENT)
     };
-    for (at, depth) in
-        [(0, 0), (0, 2), (0, 4), (2, 0), (10, 0), (2, 3), (2, 5), (1, 2), (3, 3), (10, 2)]
-    {
+    for (at, depth) in [(0, 0), (0, 2), (0, 4), (2, 0), (10, 0), (2, 3), (2, 5), (1, 2), (3, 3), (10, 2)] {
         assert_eq!(with_depth(at, depth), MALFORMED, "{at} {depth}");
     }
     // 277 in the 260: the group's length is not that of its members.
@@ -216,9 +211,7 @@ fn depth_4_and_5() {
 #[test]
 fn group_lengths() {
     // 280 of one octet, then 33 of two: 12 and 12 octets.
-    let group = |length| {
-        s_with(&[place(1, 0, 284, 0, length), place(2, 0, 280, 0, 1), place(2, 0, 33, 0, 2)])
-    };
+    let group = |length| s_with(&[place(1, 0, 284, 0, length), place(2, 0, 280, 0, 1), place(2, 0, 33, 0, 2)]);
     assert_eq!(answer(&group(24), LENT), [0, 0, 0, 0, 192]);
     for length in [0, 12, 20, 22, 23, 25, 28, u32::MAX] {
         assert_eq!(answer(&group(length), LENT), MALFORMED, "{length}");
@@ -235,10 +228,7 @@ fn group_lengths() {
     assert_eq!(answer(&inner(28), LENT), MALFORMED);
     // What is no read group has any length and no members.
     assert_eq!(answer(&s_with(&[place(1, 0, 279, 0, 13)]), LENT)[0], 0);
-    assert_eq!(
-        answer(&s_with(&[place(1, 0, 279, 0, 12), place(2, 0, 280, 0, 1)]), LENT),
-        MALFORMED
-    );
+    assert_eq!(answer(&s_with(&[place(1, 0, 279, 0, 12), place(2, 0, 280, 0, 1)]), LENT), MALFORMED);
 }
 
 #[test]
@@ -273,10 +263,7 @@ fn limits() {
     // Many overlapping parts, together longer than any output.
     assert_eq!(answer(&s_with(&[place(1, 0, 282, 0, 20_000); 245]), &octets), TOO_LONG);
     // 256 AVPs.
-    assert_eq!(
-        answer(&s_with(&[place(1, 0, 282, 0, 0); 245]), &octets),
-        [0, 0, 0, 0, 160 + 245 * 8]
-    );
+    assert_eq!(answer(&s_with(&[place(1, 0, 282, 0, 0); 245]), &octets), [0, 0, 0, 0, 160 + 245 * 8]);
 }
 
 #[test]

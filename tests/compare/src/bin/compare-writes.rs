@@ -1,9 +1,9 @@
-//! Compares the proved writer, over its boundary, with the second writer on generated drafts and pairs of lists of write
-//! calls: the answer and the whole output of each call, and that two lists write the same octets exactly where the accepted
-//! drafts have the same meanings.
+//! Compares the proved writer, over its boundary, with the second writer on generated drafts and pairs of lists of
+//! write calls: the answer and the whole output of each call, and that two lists write the same octets exactly where
+//! the accepted drafts have the same meanings.
 //!
-//! `compare-writes SEED DRAFTS PAIRS` ends with a table of what was reached. It exits 1 at the first difference, with the
-//! draft made small, or where a cell of the table is empty.
+//! `compare-writes SEED DRAFTS PAIRS` ends with a table of what was reached. It exits 1 at the first difference, with
+//! the draft made small, or where a cell of the table is empty.
 
 use second_reader::{trial, Draft, Verdict, Written};
 use std::process::ExitCode;
