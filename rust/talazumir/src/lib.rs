@@ -10,7 +10,7 @@
 //! assert_eq!((refusal.number, refusal.place, refusal.vendor, refusal.code), (5005, 20, 0, 263));
 //! ```
 //!
-//! A record over lent octets is a draft, which [`write`] turns into a command; `examples/rewrite.rs` reads a command,
+//! A record over lent octets is a draft, which [`write()`] turns into a command; `examples/rewrite.rs` reads a command,
 //! gives it another hop-by-hop identifier and writes it. [`canonical`] writes a command in the one form that all
 //! commands of its meaning share; `examples/states.rs` keeps a set of states by it.
 
@@ -114,7 +114,7 @@ impl Record {
         &self.numbers
     }
 
-    /// The same numbers, to be changed. Any numbers are a record; [`write`] says which are a command.
+    /// The same numbers, to be changed. Any numbers are a record; [`write()`] says which are a command.
     pub fn numbers_mut(&mut self) -> &mut [u32; RECORD_NUMBERS] {
         &mut self.numbers
     }
