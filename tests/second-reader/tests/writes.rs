@@ -1,29 +1,13 @@
 //! The writer: what it writes, each of 7006's conditions, the order of refusals, and the limits.
 //! Expected octets and numbers are 01's, by hand.
 
+use commands::S;
 use second_reader::{read, verdict, write, Draft, Place, Written};
 
 const TGPP: u32 = 10_415;
 
-/// 01's S: 160 octets, 11 AVPs.
-#[rustfmt::skip]
-const S: [u8; 160] = [
-    1, 0, 0, 160, 0xC0, 0x80, 0, 0x73, 1, 0, 0, 0x84, 0, 0, 0, 1, 0, 0, 0, 2,
-    0, 0, 0x01, 0x07, 0x40, 0, 0, 9, b's', 0, 0, 0,
-    0, 0, 0x01, 0x04, 0x40, 0, 0, 20,
-    0, 0, 0x01, 0x0A, 0x40, 0, 0, 12, 0, 0, 0x28, 0xAF,
-    0, 0, 0x01, 0x15, 0x40, 0, 0, 12, 0, 0, 0, 1,
-    0, 0, 0x01, 0x08, 0x40, 0, 0, 9, b'o', 0, 0, 0,
-    0, 0, 0x01, 0x28, 0x40, 0, 0, 9, b'r', 0, 0, 0,
-    0, 0, 0x01, 0x1B, 0x40, 0, 0, 9, b'd', 0, 0, 0,
-    0, 0, 0x10, 0x6B, 0xC0, 0, 0, 16, 0, 0, 0x28, 0xAF, 0, 0, 0, 1,
-    0, 0, 0x01, 0x25, 0x40, 0, 0, 9, b'h', 0, 0, 0,
-    0, 0, 0x10, 0x6A, 0xC0, 0, 0, 13, 0, 0, 0x28, 0xAF, b'i', 0, 0, 0,
-    0, 0, 0x10, 0x70, 0xC0, 0, 0, 16, 0, 0, 0x28, 0xAF, 0, 0, 0, 7,
-];
-
 /// What the lent octets of `s_draft` hold: each part once, out of the command's order.
-const LENT: &[u8; 21] = b"ihdros\0\0\0\x07\0\0\0\x01\0\0\x28\xAF???";
+const LENT: &[u8; 21] = b"fedrhs\0\0\0\x07\0\0\0\x01\0\0\x28\xAF???";
 
 fn place(depth: u32, vendor: u32, code: u32, start: u32, length: u32) -> Place {
     Place { depth, vendor, code, m: 1, p: 0, start, length }
