@@ -1,10 +1,10 @@
-/* Talazumir: the proved reader and writer of Nt commands, for C callers. Link with target/staticlib/libboundary.a, which
- * `rt staticlib boundary` proves and builds (x86-64 Linux).
+/* Talazumir: the proved reader and writer of Nt commands, for C callers. Link with target/staticlib/libboundary.a,
+ * which `rt staticlib boundary` proves and builds (x86-64 Linux).
  *
- * Each function has one answer for every content of what it is handed; there is no error besides the answers below. What
- * the caller sees to: pointers are not NULL, also where a length is 0; a slice has the octets that its length says; an
- * array has the length that its declaration says; an array that is written overlaps nothing else that is handed in. The
- * functions keep nothing between calls and allocate nothing. */
+ * Each function has one answer for every content of what it is handed; there is no error besides the answers below.
+ * What the caller sees to: pointers are not NULL, also where a length is 0; a slice has the octets that its length
+ * says; an array has the length that its declaration says; an array that is written overlaps nothing else that is
+ * handed in. The functions keep nothing between calls and allocate nothing. */
 #ifndef TALAZUMIR_H
 #define TALAZUMIR_H
 
@@ -36,9 +36,9 @@ extern "C" {
 #define TALAZUMIR_END_TO_END 5
 #define TALAZUMIR_COUNT 6
 
-/* The index of the first number of a position, and what stands from there on. Depth is 1 in the command's own list; vendor
- * is 0 where V is clear; M and P are 0 or 1; start and length are those of the data, counted from the command's start.
- * AVPs stand in walk order: a group, then its members. The numbers of unused positions are 0. */
+/* The index of the first number of a position, and what stands from there on. Depth is 1 in the command's own list;
+ * vendor is 0 where V is clear; M and P are 0 or 1; start and length are those of the data, counted from the command's
+ * start. AVPs stand in walk order: a group, then its members. The numbers of unused positions are 0. */
 #define TALAZUMIR_POSITION(position) (7 + 7 * (size_t)(position))
 #define TALAZUMIR_AVP_DEPTH 0
 #define TALAZUMIR_AVP_VENDOR 1
@@ -48,8 +48,18 @@ extern "C" {
 #define TALAZUMIR_AVP_START 5
 #define TALAZUMIR_AVP_LENGTH 6
 
-/* What comes back for a command or a draft: the number (table below), the place, counted in octets from the command's start,
- * and the Vendor-Id and code of the AVP at fault. An accepted one has four times 0.
+/* The stack that a call takes at most, in octets, its return address among them: the frames of the archive's code along
+ * the deepest chain of calls, and 4,096 for memcpy and memset of the C library, which the dynamic linker may bind at
+ * their first call; rounded up. No proof says it: tests/boundary/stack adds up the frames of the archive as built. */
+#define TALAZUMIR_VERDICT_STACK 2048
+#define TALAZUMIR_READ_STACK 32768
+#define TALAZUMIR_DATA_STACK 256
+#define TALAZUMIR_SEARCH_STACK 256
+#define TALAZUMIR_WRITE_STACK 28672
+#define TALAZUMIR_CANONICAL_STACK 49152
+
+/* What comes back for a command or a draft: the number (table below), the place, counted in octets from the command's
+ * start, and the Vendor-Id and code of the AVP at fault. An accepted one has four times 0.
  *
  *      0  accepted
  *   3001  command code                3007  application
@@ -63,7 +73,8 @@ extern "C" {
  *   7005  error answer                7006  malformed draft (writer)
  *
  * The place is the first octet of the AVP at fault; for 5005 the end of the list that lacks the AVP, with the missing
- * vendor and code. Header refusals and 7002 have vendor and code 0; 7004, 7006 and the writer's 7001 have place 0 too. */
+ * vendor and code. Header refusals and 7002 have vendor and code 0; 7004, 7006 and the writer's 7001 have place 0
+ * too. */
 struct TalazumirVerdict {
     uint32_t number;
     uint32_t place;
@@ -71,8 +82,8 @@ struct TalazumirVerdict {
     uint32_t code;
 };
 
-/* What comes back for a draft, or for a command's canonical form: the verdict, and how many octets were written, 0 with a
- * refusal. */
+/* What comes back for a draft, or for a command's canonical form: the verdict, and how many octets were written, 0 with
+ * a refusal. */
 struct TalazumirWritten {
     struct TalazumirVerdict verdict;
     uint32_t length;
@@ -84,9 +95,9 @@ struct TalazumirPart {
     size_t length;
 };
 
-/* The verdict of the command that is the whole slice. The log is scratch memory: whatever it holds before plays no part, and
- * what it holds afterwards is no record, after a refusal least of all; talazumir_read gives the record. It is written from its
- * first number on, and its numbers behind what is written stay as they were. */
+/* The verdict of the command that is the whole slice. The log is scratch memory: whatever it holds before plays no
+ * part, and what it holds afterwards is no record, after a refusal least of all; talazumir_read gives the record. It is
+ * written from its first number on, and its numbers behind what is written stay as they were. */
 struct TalazumirVerdict talazumir_verdict(const uint8_t *octets, size_t length, uint32_t log[TALAZUMIR_LOG_NUMBERS]);
 
 /* The verdict of the command that is the whole slice, and its record. All 1,799 numbers are written; with a refusal all
@@ -94,42 +105,44 @@ struct TalazumirVerdict talazumir_verdict(const uint8_t *octets, size_t length, 
 struct TalazumirVerdict talazumir_read(const uint8_t *octets, size_t length, uint32_t record[TALAZUMIR_RECORD_NUMBERS]);
 
 /* The part of the slice that is the data of the AVP at a position, for whatever numbers the record holds and whatever
- * slice. Start 0 and length 0 where the position is unused (from the count on, or from 256 on) or where the part does not
- * lie in the slice. So start + length never exceeds `length`. Octets of the slice are not looked at. */
-struct TalazumirPart talazumir_data(const uint32_t record[TALAZUMIR_RECORD_NUMBERS], size_t position, const uint8_t *octets,
-                                    size_t length);
+ * slice. Start 0 and length 0 where the position is unused (from the count on, or from 256 on) or where the part does
+ * not lie in the slice. So start + length never exceeds `length`. Octets of the slice are not looked at. */
+struct TalazumirPart talazumir_data(const uint32_t record[TALAZUMIR_RECORD_NUMBERS], size_t position,
+                                    const uint8_t *octets, size_t length);
 
 /* The position of the first AVP at depth 1 with this vendor and code, TALAZUMIR_NONE exactly where there is none, for
  * whatever numbers the record holds. */
 uint32_t talazumir_search(const uint32_t record[TALAZUMIR_RECORD_NUMBERS], uint32_t vendor, uint32_t code);
 
-/* Writes the draft, which is the record over the lent octets, as a command to the start of the output. Any numbers may stand
- * in the record; the first of these that applies is the answer:
+/* Writes the draft, which is the record over the lent octets, as a command to the start of the output. Any numbers may
+ * stand in the record; the first of these that applies is the answer:
  *
  *   7006  the count exceeds 256; a number of an unused position is not 0; the data of an AVP that is no group leave the
- *         octets; the first depth is not 1, a depth is 0 or above 4, or one grows by more than 1 or not right after a group;
- *         a group's length is not that of its members with padding; R, P, E, T, M or P of a position is neither 0 nor 1
+ *         octets; the first depth is not 1, a depth is 0 or above 4, or one grows by more than 1 or not right after a
+ *         group; a group's length is not that of its members with padding; R, P, E, T, M or P of a position is neither
+ *         0 nor 1
  *   7001  the command would be longer than 16,384 octets
  *   7004  it would be longer than the room
  *         the refusal that talazumir_read gives to the command's octets
  *      0  the command stands in the output, as many octets as the length says
  *
- * Groups are the AVPs 260, 284 and 297 without vendor, and 628, 4204 and 4207 of vendor 10415; their starts are not looked
- * at. V is set exactly where the vendor is not 0; padding and reserved bits are 0. With a refusal the whole output stays as
- * it was, else the octets past the length. */
-struct TalazumirWritten talazumir_write(const uint32_t record[TALAZUMIR_RECORD_NUMBERS], const uint8_t *octets, size_t length,
-                                        uint8_t *out, size_t room);
+ * Groups are the AVPs 260, 284 and 297 without vendor, and 628, 4204 and 4207 of vendor 10415; their starts are not
+ * looked at. V is set exactly where the vendor is not 0; padding and reserved bits are 0. With a refusal the whole
+ * output stays as it was, else the octets past the length. */
+struct TalazumirWritten talazumir_write(const uint32_t record[TALAZUMIR_RECORD_NUMBERS], const uint8_t *octets,
+                                        size_t length, uint8_t *out, size_t room);
 
-/* Writes the command that is the whole slice to the start of the output in its canonical form: its own record, written over
- * its octets, so that padding and reserved bits are 0. The first of these that applies is the answer:
+/* Writes the command that is the whole slice to the start of the output in its canonical form: its own record, written
+ * over its octets, so that padding and reserved bits are 0. The first of these that applies is the answer:
  *
  *         the refusal that talazumir_read gives to the command
  *   7004  the room is less than the command's length
  *      0  the form stands in the output, as long as the command
  *
- * The form is an accepted command with the command's meaning, and its own form. Two accepted commands have the same form
- * exactly where they have the same meaning, that is, where they agree in every octet outside padding and the four reserved
- * command bits: so it names a state. With a refusal the whole output stays as it was, else the octets past the length. */
+ * The form is an accepted command with the command's meaning, and its own form. Two accepted commands have the same
+ * form exactly where they have the same meaning, that is, where they agree in every octet outside padding and the four
+ * reserved command bits: so it names a state. With a refusal the whole output stays as it was, else the octets past the
+ * length. */
 struct TalazumirWritten talazumir_canonical(const uint8_t *octets, size_t length, uint8_t *out, size_t room);
 
 #ifdef __cplusplus

@@ -60,7 +60,8 @@ static void print_answer(const char *name, size_t room, struct TalazumirWritten 
     while (kept > 0 && output[kept - 1] == 0xEE) {
         kept--;
     }
-    printf("%s into %zu: %" PRIu32 " %" PRIu32 " %" PRIu32 " %" PRIu32 ", length %" PRIu32 "; as S up to %zu, altered up to %zu\n",
+    printf("%s into %zu: %" PRIu32 " %" PRIu32 " %" PRIu32 " %" PRIu32 ", length %" PRIu32
+           "; as S up to %zu, altered up to %zu\n",
            name, room, w.verdict.number, w.verdict.place, w.verdict.vendor, w.verdict.code, w.length, same, kept);
 }
 
