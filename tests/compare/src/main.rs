@@ -6,7 +6,7 @@
 
 use second_reader::coverage::Coverage;
 use second_reader::generate::{command, Prng};
-use std::fmt::Debug;
+use std::fmt::{Debug, Display};
 use std::process::ExitCode;
 
 /// Names that are looked for in every command: of both commands' lists, of groups alone, and of no AVP.
@@ -88,7 +88,7 @@ fn compare_records(ours: &talazumir::Record, expected: &second_reader::Record, o
     for (position, (a, b)) in ours.avps().zip(&expected.avps).enumerate() {
         let a = (a.depth, a.vendor, a.code, a.m, a.p, a.start, a.length);
         let b = (u32::from(b.depth), b.vendor, b.code, b.m, b.p, b.start, b.length);
-        same(&format!("position {position}"), a, b)?;
+        same(format_args!("position {position}"), a, b)?;
     }
     let unused = &ours.numbers()[7 + 7 * ours.count()..];
     same("unused places", unused.iter().all(|&number| number == 0), true)?;
@@ -97,19 +97,20 @@ fn compare_records(ours: &talazumir::Record, expected: &second_reader::Record, o
         for slice in [octets, half] {
             let a = ours.data(position, slice);
             let b = second_reader::data(expected, position, slice);
-            same(&format!("data of position {position}"), a, b)?;
-            same(&format!("place of the data of position {position}"), a.as_ptr(), b.as_ptr())?;
+            same(format_args!("data of position {position}"), a, b)?;
+            same(format_args!("place of the data of position {position}"), a.as_ptr(), b.as_ptr())?;
         }
     }
     let there = expected.avps.iter().map(|avp| (avp.vendor, avp.code));
     for (vendor, code) in there.chain(NAMES) {
         let a = ours.search(vendor, code);
-        same(&format!("search of {vendor} {code}"), a, second_reader::search(expected, vendor, code))?;
+        same(format_args!("search of {vendor} {code}"), a, second_reader::search(expected, vendor, code))?;
     }
     Ok(())
 }
 
-fn same<T: PartialEq + Debug>(what: &str, ours: T, expected: T) -> Result<(), String> {
+/// The name is put into words only for a difference: it is asked for at every position of every command.
+fn same<T: PartialEq + Debug>(what: impl Display, ours: T, expected: T) -> Result<(), String> {
     if ours == expected {
         return Ok(());
     }
