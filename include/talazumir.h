@@ -48,6 +48,16 @@ extern "C" {
 #define TALAZUMIR_AVP_START 5
 #define TALAZUMIR_AVP_LENGTH 6
 
+/* The stack that a call takes at most, in octets, its return address among them: the frames of the archive's code along
+ * the deepest chain of calls, and 4,096 for memcpy and memset of the C library, which the dynamic linker may bind at
+ * their first call; rounded up. No proof says it: tests/boundary/stack adds up the frames of the archive as built. */
+#define TALAZUMIR_VERDICT_STACK 2048
+#define TALAZUMIR_READ_STACK 32768
+#define TALAZUMIR_DATA_STACK 256
+#define TALAZUMIR_SEARCH_STACK 256
+#define TALAZUMIR_WRITE_STACK 28672
+#define TALAZUMIR_CANONICAL_STACK 49152
+
 /* What comes back for a command or a draft: the number (table below), the place, counted in octets from the command's
  * start, and the Vendor-Id and code of the AVP at fault. An accepted one has four times 0.
  *

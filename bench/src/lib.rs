@@ -7,11 +7,8 @@ use std::ops::RangeInclusive;
 pub const SEED: u64 = 20261115;
 
 /// A mix of commands: its name, and the lengths of its commands.
-const MIXES: [(&str, RangeInclusive<usize>); 3] = [
-    ("about 160 octets", 120..=240),
-    ("about 1,000 octets", 800..=1200),
-    ("near 16,384 octets", 12000..=16384),
-];
+const MIXES: [(&str, RangeInclusive<usize>); 3] =
+    [("about 160 octets", 120..=240), ("about 1,000 octets", 800..=1200), ("near 16,384 octets", 12000..=16384)];
 
 /// Commands of a mix.
 const COMMANDS: usize = 64;
@@ -23,10 +20,7 @@ pub fn mixes(seed: u64) -> Vec<(String, Vec<Vec<u8>>)> {
     for (name, lengths) in MIXES {
         for accepted in [true, false] {
             let word = if accepted { "accepted" } else { "refused" };
-            mixes.push((
-                format!("{name}, {word}"),
-                mix(&mut prng, &lengths, accepted),
-            ));
+            mixes.push((format!("{name}, {word}"), mix(&mut prng, &lengths, accepted)));
         }
     }
     mixes
@@ -38,11 +32,7 @@ fn mix(prng: &mut Prng, lengths: &RangeInclusive<usize>, accepted: bool) -> Vec<
     while commands.len() < COMMANDS {
         let octets = command(prng);
         let verdict = second_reader::verdict(&octets);
-        let fits = if accepted {
-            verdict.number == 0
-        } else {
-            verdict.place >= 20
-        };
+        let fits = if accepted { verdict.number == 0 } else { verdict.place >= 20 };
         if lengths.contains(&octets.len()) && fits {
             commands.push(octets);
         }

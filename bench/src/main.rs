@@ -16,8 +16,7 @@ const ROUNDS: usize = 21;
 fn main() {
     let seed = std::env::args().nth(1).and_then(|word| word.parse().ok()).unwrap_or(bench::SEED);
     println!(
-        "seed {seed}, {ROUNDS} rounds; ratio of times, proved reader to second reader: \
-         median (least to greatest)"
+        "seed {seed}, {ROUNDS} rounds; ratio of times, proved reader to second reader: median (least to greatest)"
     );
     for (name, commands) in bench::mixes(seed) {
         let verdicts = rounds(&commands, ours(), |octets| {
@@ -56,11 +55,7 @@ fn ours() -> impl FnMut(&[u8]) {
 }
 
 /// The ratio of each round.
-fn rounds(
-    commands: &[Vec<u8>],
-    mut ours: impl FnMut(&[u8]),
-    mut theirs: impl FnMut(&[u8]),
-) -> Vec<f64> {
+fn rounds(commands: &[Vec<u8>], mut ours: impl FnMut(&[u8]), mut theirs: impl FnMut(&[u8])) -> Vec<f64> {
     let octets: usize = commands.iter().map(Vec::len).sum();
     let times = OCTETS.div_ceil(octets);
     let mut ratios = Vec::new();

@@ -6,20 +6,9 @@
 
 #include "talazumir.h"
 
-/* 01, Commands at the edges: S, 160 octets. */
+/* 01, Commands at the edges: S, from tests/commands/S.hex. */
 static const uint8_t S[160] = {
-    0x01, 0x00, 0x00, 0xA0, 0xC0, 0x80, 0x00, 0x73, 0x01, 0x00, 0x00, 0x84, 0, 0, 0, 1, 0, 0, 0, 2,
-    0, 0, 0x01, 0x07, 0x40, 0, 0, 9, 0x73, 0, 0, 0,                            /* 263 Session-Id */
-    0, 0, 0x01, 0x04, 0x40, 0, 0, 20,                                          /* 260, holding 266 */
-    0, 0, 0x01, 0x0A, 0x40, 0, 0, 12, 0, 0, 0x28, 0xAF,                        /* 266 Vendor-Id */
-    0, 0, 0x01, 0x15, 0x40, 0, 0, 12, 0, 0, 0, 1,                              /* 277 Auth-Session-State */
-    0, 0, 0x01, 0x08, 0x40, 0, 0, 9, 0x68, 0, 0, 0,                            /* 264 Origin-Host */
-    0, 0, 0x01, 0x28, 0x40, 0, 0, 9, 0x72, 0, 0, 0,                            /* 296 Origin-Realm */
-    0, 0, 0x01, 0x1B, 0x40, 0, 0, 9, 0x64, 0, 0, 0,                            /* 283 Destination-Realm */
-    0, 0, 0x10, 0x6B, 0xC0, 0, 0, 16, 0, 0, 0x28, 0xAF, 0, 0, 0, 1,            /* 4203 Transfer-Request-Type */
-    0, 0, 0x01, 0x25, 0x40, 0, 0, 9, 0x65, 0, 0, 0,                            /* 293 Destination-Host */
-    0, 0, 0x10, 0x6A, 0xC0, 0, 0, 13, 0, 0, 0x28, 0xAF, 0x66, 0, 0, 0,         /* 4202 Reference-Id */
-    0, 0, 0x10, 0x70, 0xC0, 0, 0, 16, 0, 0, 0x28, 0xAF, 0, 0, 0, 7,            /* 4208 Transfer-Policy-Id */
+#include "S.inc"
 };
 
 static uint32_t record[TALAZUMIR_RECORD_NUMBERS];

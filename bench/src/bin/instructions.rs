@@ -8,11 +8,9 @@ fn main() {
     let words: Vec<&str> = words.iter().map(String::as_str).collect();
     match words[..] {
         ["write", folder] => write(folder),
-        [reader, file, times] => repeat(
-            reader,
-            &std::fs::read(file).expect("a file"),
-            times.parse().expect("a number"),
-        ),
+        [reader, file, times] => {
+            repeat(reader, &std::fs::read(file).expect("a file"), times.parse().expect("a number"))
+        }
         _ => panic!("instructions proved|second|record FILE TIMES, or instructions write DIR"),
     }
 }

@@ -52,8 +52,8 @@ fn picture(figures: &str) -> String {
     }
     let _ = writeln!(
         svg,
-        "<text x=\"8\" y=\"{}\">time of the proved reader over that of the second reader: \
-         median, least to greatest</text>\n</svg>",
+        "<text x=\"8\" y=\"{}\">time of the proved reader over that of the second reader: median, least to greatest\
+         </text>\n</svg>",
         height - 5.0
     );
     svg

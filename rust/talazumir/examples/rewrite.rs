@@ -1,7 +1,8 @@
 //! Reads a command in hex from the command line, gives it the hop-by-hop identifier that stands before it, writes it,
-//! and prints the written command in hex; for a refused command its verdict.
+//! and prints the written command in hex; for a refused command its verdict. Ends with status 0 where it is
+//! accepted, 1 where it is refused, 2 where the arguments are no identifier and octets in hex.
 //!
-//! `cargo run --example rewrite -- 7 010000A0C080007301000084 ..`
+//! `cargo run --example rewrite -- 7 $(sed 's/#.*//' tests/commands/S.hex)`
 
 mod hex;
 
@@ -11,17 +12,14 @@ fn main() -> ExitCode {
     let words: Vec<String> = std::env::args().skip(1).collect();
     let arguments = words.split_first().and_then(|(first, rest)| Some((first.parse().ok()?, hex::octets_of(rest)?)));
     let Some((identifier, octets)) = arguments else {
-        eprintln!(
-            "usage: rewrite IDENTIFIER HEX.. \
-             (a hop-by-hop identifier, then a command, two hex digits for each octet)"
-        );
-        return ExitCode::FAILURE;
+        eprintln!("usage: rewrite IDENTIFIER HEX.. (a hop-by-hop identifier, then a command, two hex digits an octet)");
+        return ExitCode::from(2);
     };
     let mut record = match talazumir::read(&octets) {
         Ok(record) => record,
         Err(refusal) => {
             println!("{refusal}");
-            return ExitCode::SUCCESS;
+            return ExitCode::FAILURE;
         }
     };
     record.set_hop_by_hop(identifier);

@@ -1,7 +1,9 @@
 //! The proved reader and writer of Nt commands (TS 29.154, Background-Data-Transfer request and answer) as safe Rust.
 //!
 //! The answers come from the archive that `rt staticlib boundary` proves and builds; this crate only hands over slices
-//! and arrays. `include/talazumir.h` has the table of verdict numbers.
+//! and arrays. `include/talazumir.h` has the table of verdict numbers, and the stack that each call takes: 48 KiB at
+//! most. The archive is the one in the repository's `target/staticlib`, or in the folder that `TALAZUMIR_ARCHIVE_DIR`
+//! names at the build.
 //!
 //! ```
 //! // A header alone lacks its Session-Id (263) at octet 20.
@@ -10,7 +12,7 @@
 //! assert_eq!((refusal.number, refusal.place, refusal.vendor, refusal.code), (5005, 20, 0, 263));
 //! ```
 //!
-//! A record over lent octets is a draft, which [`write`] turns into a command; `examples/rewrite.rs` reads a command,
+//! A record over lent octets is a draft, which [`write()`] turns into a command; `examples/rewrite.rs` reads a command,
 //! gives it another hop-by-hop identifier and writes it. [`canonical`] writes a command in the one form that all
 //! commands of its meaning share; `examples/states.rs` keeps a set of states by it.
 
@@ -114,7 +116,7 @@ impl Record {
         &self.numbers
     }
 
-    /// The same numbers, to be changed. Any numbers are a record; [`write`] says which are a command.
+    /// The same numbers, to be changed. Any numbers are a record; [`write()`] says which are a command.
     pub fn numbers_mut(&mut self) -> &mut [u32; RECORD_NUMBERS] {
         &mut self.numbers
     }

@@ -1,23 +1,8 @@
 //! The canonical form of a command through the safe function: one for all commands of a meaning, another for another,
 //! and what each room and each refusal leaves.
 
+use commands::S;
 use talazumir::{canonical, read, Verdict, Written};
-
-/// 01, Commands at the edges: S, 160 octets, with reserved bits and padding 0.
-const S: [u8; 160] = [
-    1, 0, 0, 160, 0xC0, 0x80, 0, 0x73, 1, 0, 0, 0x84, 0, 0, 0, 1, 0, 0, 0, 2, // header
-    0, 0, 0x01, 0x07, 0x40, 0, 0, 9, b's', 0, 0, 0, // 263
-    0, 0, 0x01, 0x04, 0x40, 0, 0, 20, // 260, holding 266
-    0, 0, 0x01, 0x0A, 0x40, 0, 0, 12, 0, 0, 0x28, 0xAF, // 266
-    0, 0, 0x01, 0x15, 0x40, 0, 0, 12, 0, 0, 0, 1, // 277
-    0, 0, 0x01, 0x08, 0x40, 0, 0, 9, b'h', 0, 0, 0, // 264
-    0, 0, 0x01, 0x28, 0x40, 0, 0, 9, b'r', 0, 0, 0, // 296
-    0, 0, 0x01, 0x1B, 0x40, 0, 0, 9, b'd', 0, 0, 0, // 283
-    0, 0, 0x10, 0x6B, 0xC0, 0, 0, 16, 0, 0, 0x28, 0xAF, 0, 0, 0, 1, // 4203
-    0, 0, 0x01, 0x25, 0x40, 0, 0, 9, b'e', 0, 0, 0, // 293
-    0, 0, 0x10, 0x6A, 0xC0, 0, 0, 13, 0, 0, 0x28, 0xAF, b'f', 0, 0, 0, // 4202
-    0, 0, 0x10, 0x70, 0xC0, 0, 0, 16, 0, 0, 0x28, 0xAF, 0, 0, 0, 7, // 4208
-];
 
 /// The padding of S behind each AVP of one octet.
 const PADDING: [std::ops::Range<usize>; 6] = [29..32, 73..76, 85..88, 97..100, 125..128, 141..144];

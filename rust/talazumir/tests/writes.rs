@@ -1,23 +1,8 @@
 //! Document 01's writer through the safe function: S written from its record and from a draft of other octets, what is
 //! written past the length, and each sort of refusal.
 
+use commands::S;
 use talazumir::{read, write, Record, Verdict, Written, RECORD_NUMBERS};
-
-/// 01, Commands at the edges: S, 160 octets.
-const S: [u8; 160] = [
-    1, 0, 0, 160, 0xC0, 0x80, 0, 0x73, 1, 0, 0, 0x84, 0, 0, 0, 1, 0, 0, 0, 2, // header
-    0, 0, 0x01, 0x07, 0x40, 0, 0, 9, b's', 0, 0, 0, // 263
-    0, 0, 0x01, 0x04, 0x40, 0, 0, 20, // 260, holding 266
-    0, 0, 0x01, 0x0A, 0x40, 0, 0, 12, 0, 0, 0x28, 0xAF, // 266
-    0, 0, 0x01, 0x15, 0x40, 0, 0, 12, 0, 0, 0, 1, // 277
-    0, 0, 0x01, 0x08, 0x40, 0, 0, 9, b'h', 0, 0, 0, // 264
-    0, 0, 0x01, 0x28, 0x40, 0, 0, 9, b'r', 0, 0, 0, // 296
-    0, 0, 0x01, 0x1B, 0x40, 0, 0, 9, b'd', 0, 0, 0, // 283
-    0, 0, 0x10, 0x6B, 0xC0, 0, 0, 16, 0, 0, 0x28, 0xAF, 0, 0, 0, 1, // 4203
-    0, 0, 0x01, 0x25, 0x40, 0, 0, 9, b'e', 0, 0, 0, // 293
-    0, 0, 0x10, 0x6A, 0xC0, 0, 0, 13, 0, 0, 0x28, 0xAF, b'f', 0, 0, 0, // 4202
-    0, 0, 0x10, 0x70, 0xC0, 0, 0, 16, 0, 0, 0x28, 0xAF, 0, 0, 0, 7, // 4208
-];
 
 fn refused(number: u32, place: u32, vendor: u32, code: u32) -> Written {
     Written { verdict: Verdict { number, place, vendor, code }, length: 0 }
@@ -72,8 +57,8 @@ fn refusals_leave_the_output() {
     // Empty octets; flags that are no bit, a count, depths, a group's length, a part that leaves the octets, the last
     // place.
     assert_eq!(refusal(s_numbers(), &[], 200), refused(7006, 0, 0, 0));
-    let wrong = [(0, 2), (3, 2), (6, 257), (7, 0), (7, 2), (20, 11), (20, 13), (82, 160), (1792, 1), (1798, 1)];
-    for (at, number) in wrong {
+    for (at, number) in [(0, 2), (3, 2), (6, 257), (7, 0), (7, 2), (20, 11), (20, 13), (82, 160), (1792, 1), (1798, 1)]
+    {
         let mut numbers = s_numbers();
         numbers[at] = number;
         assert_eq!(refusal(numbers, &S, 200), refused(7006, 0, 0, 0));

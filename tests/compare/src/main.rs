@@ -6,20 +6,12 @@
 
 use second_reader::coverage::Coverage;
 use second_reader::generate::{command, Prng};
-use std::fmt::Debug;
+use std::fmt::{Debug, Display};
 use std::process::ExitCode;
 
 /// Names that are looked for in every command: of both commands' lists, of groups alone, and of no AVP.
-const NAMES: [(u32, u32); 8] = [
-    (0, 263),
-    (0, 268),
-    (0, 266),
-    (0, 4203),
-    (10415, 4203),
-    (10415, 4205),
-    (10415, 4207),
-    (9, 9),
-];
+const NAMES: [(u32, u32); 8] =
+    [(0, 263), (0, 268), (0, 266), (0, 4203), (10415, 4203), (10415, 4205), (10415, 4207), (9, 9)];
 
 fn main() -> ExitCode {
     let arguments: Vec<String> = std::env::args().skip(1).collect();
@@ -77,9 +69,7 @@ fn compare(octets: &[u8], reader: &mut talazumir::Reader) -> Result<(), String> 
             same("number", 0, expected.verdict.number)?;
             compare_records(&record, &expected.record, octets)
         }
-        Err(refusal) => {
-            same("refusal", (refusal.number, refusal.place, refusal.vendor, refusal.code), verdict)
-        }
+        Err(refusal) => same("refusal", (refusal.number, refusal.place, refusal.vendor, refusal.code), verdict),
     }
 }
 
@@ -87,11 +77,7 @@ fn numbers(verdict: &second_reader::Verdict) -> (u32, u32, u32, u32) {
     (verdict.number, verdict.place, verdict.vendor, verdict.code)
 }
 
-fn compare_records(
-    ours: &talazumir::Record,
-    expected: &second_reader::Record,
-    octets: &[u8],
-) -> Result<(), String> {
+fn compare_records(ours: &talazumir::Record, expected: &second_reader::Record, octets: &[u8]) -> Result<(), String> {
     same("R", ours.is_request(), expected.r)?;
     same("P", ours.is_proxiable(), expected.p)?;
     same("E", ours.is_error(), expected.e)?;
@@ -102,7 +88,7 @@ fn compare_records(
     for (position, (a, b)) in ours.avps().zip(&expected.avps).enumerate() {
         let a = (a.depth, a.vendor, a.code, a.m, a.p, a.start, a.length);
         let b = (u32::from(b.depth), b.vendor, b.code, b.m, b.p, b.start, b.length);
-        same(&format!("position {position}"), a, b)?;
+        same(format_args!("position {position}"), a, b)?;
     }
     let unused = &ours.numbers()[7 + 7 * ours.count()..];
     same("unused places", unused.iter().all(|&number| number == 0), true)?;
@@ -111,19 +97,20 @@ fn compare_records(
         for slice in [octets, half] {
             let a = ours.data(position, slice);
             let b = second_reader::data(expected, position, slice);
-            same(&format!("data of position {position}"), a, b)?;
-            same(&format!("place of the data of position {position}"), a.as_ptr(), b.as_ptr())?;
+            same(format_args!("data of position {position}"), a, b)?;
+            same(format_args!("place of the data of position {position}"), a.as_ptr(), b.as_ptr())?;
         }
     }
     let there = expected.avps.iter().map(|avp| (avp.vendor, avp.code));
     for (vendor, code) in there.chain(NAMES) {
         let a = ours.search(vendor, code);
-        same(&format!("search of {vendor} {code}"), a, second_reader::search(expected, vendor, code))?;
+        same(format_args!("search of {vendor} {code}"), a, second_reader::search(expected, vendor, code))?;
     }
     Ok(())
 }
 
-fn same<T: PartialEq + Debug>(what: &str, ours: T, expected: T) -> Result<(), String> {
+/// The name is put into words only for a difference: it is asked for at every position of every command.
+fn same<T: PartialEq + Debug>(what: impl Display, ours: T, expected: T) -> Result<(), String> {
     if ours == expected {
         return Ok(());
     }

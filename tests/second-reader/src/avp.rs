@@ -24,8 +24,7 @@ impl AvpHeader {
     /// `place` is where that is in the command.
     #[inline]
     pub fn read(rest: &[u8], place: usize) -> Result<AvpHeader, Verdict> {
-        let refuse =
-            |vendor, code| Err(Verdict::named(number::INVALID_AVP_LENGTH, place, vendor, code));
+        let refuse = |vendor, code| Err(Verdict::named(number::INVALID_AVP_LENGTH, place, vendor, code));
         let Some(&[c0, c1, c2, c3, flags, l0, l1, l2]) = rest.first_chunk::<8>() else {
             return refuse(0, 0);
         };

@@ -35,11 +35,7 @@ pub struct Outcome {
 
 /// Makes the calls with this writer. Each gets the part of the output behind what was written so
 /// far; a refused one leaves that part to the next.
-pub fn run(
-    calls: &[Call],
-    output: &mut [u8],
-    mut write: impl FnMut(&Draft, &[u8], &mut [u8]) -> Written,
-) -> Outcome {
+pub fn run(calls: &[Call], output: &mut [u8], mut write: impl FnMut(&Draft, &[u8], &mut [u8]) -> Written) -> Outcome {
     let mut outcome = Outcome::default();
     for call in calls {
         let (done, part) = output.split_at_mut(outcome.written);

@@ -5,16 +5,12 @@ use std::process::ExitCode;
 
 /// The arguments, as numbers.
 pub fn numbers<const N: usize>() -> Option<[u64; N]> {
-    let numbers: Option<Vec<u64>> =
-        std::env::args().skip(1).map(|word| word.parse().ok()).collect();
+    let numbers: Option<Vec<u64>> = std::env::args().skip(1).map(|word| word.parse().ok()).collect();
     numbers?.try_into().ok()
 }
 
 /// Prints what a trial reached and what it did not, or what it found. Both are failures.
-pub fn conclude<R: Display>(
-    trial: Result<R, String>,
-    gaps: impl Fn(&R) -> Vec<String>,
-) -> ExitCode {
+pub fn conclude<R: Display>(trial: Result<R, String>, gaps: impl Fn(&R) -> Vec<String>) -> ExitCode {
     let report = match trial {
         Ok(report) => report,
         Err(words) => {

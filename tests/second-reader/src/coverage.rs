@@ -179,8 +179,7 @@ fn scan(octets: &[u8], verdict: &Verdict, depth: u8, from: usize, to: usize, fou
             break;
         };
         has |= header.vendor == verdict.vendor && header.code == verdict.code;
-        let group =
-            Kind::of(header.vendor, header.code).is_some_and(|k| rows::of_group(k).is_some());
+        let group = Kind::of(header.vendor, header.code).is_some_and(|k| rows::of_group(k).is_some());
         if group && depth < 4 {
             inner.push((at + header.size, at + header.length));
         }

@@ -116,15 +116,7 @@ impl Draft {
     pub fn numbers(&self) -> [u32; RECORD_NUMBERS] {
         let mut numbers = [0; RECORD_NUMBERS];
         let (head, places) = numbers.split_at_mut(7);
-        head.copy_from_slice(&[
-            self.r,
-            self.p,
-            self.e,
-            self.t,
-            self.hop_by_hop,
-            self.end_to_end,
-            self.count,
-        ]);
+        head.copy_from_slice(&[self.r, self.p, self.e, self.t, self.hop_by_hop, self.end_to_end, self.count]);
         for (numbers, place) in places.chunks_exact_mut(7).zip(self.places.iter()) {
             numbers.copy_from_slice(&place.numbers());
         }

@@ -17,8 +17,7 @@ pub fn check(request: bool, found: &Found, end: usize) -> Result<(), Verdict> {
 
 /// A request for policies (Transfer-Request-Type 0).
 fn new_transfer(seen: Kinds, end: usize) -> Result<(), Verdict> {
-    const VOLUME: Kinds =
-        Kinds::of(&[Kind::CcOutputOctets, Kind::CcInputOctets, Kind::CcTotalOctets]);
+    const VOLUME: Kinds = Kinds::of(&[Kind::CcOutputOctets, Kind::CcInputOctets, Kind::CcTotalOctets]);
     need(seen, Kind::ApplicationServiceProviderIdentity, end)?;
     if !seen.has_any(VOLUME) {
         return Err(missing(Kind::CcOutputOctets, end));

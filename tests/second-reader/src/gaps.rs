@@ -75,20 +75,13 @@ impl Coverage {
         gaps
     }
 
-    fn row_gaps(
-        &self,
-        list: &str,
-        rows: &Rows,
-        depths: RangeInclusive<u8>,
-        gaps: &mut Vec<String>,
-    ) {
+    fn row_gaps(&self, list: &str, rows: &Rows, depths: RangeInclusive<u8>, gaps: &mut Vec<String>) {
         for &kind in Kind::ALL {
             let missing = self.times_named(number::MISSING_AVP, kind, depths.clone());
             if rows.needed.has(kind) && missing == 0 {
                 gaps.push(format!("{list}: {} missing", kind.code()));
             }
-            let exceeding =
-                self.times_named(number::AVP_OCCURS_TOO_MANY_TIMES, kind, depths.clone());
+            let exceeding = self.times_named(number::AVP_OCCURS_TOO_MANY_TIMES, kind, depths.clone());
             if rows.single.has(kind) && exceeding == 0 {
                 gaps.push(format!("{list}: {} exceeding", kind.code()));
             }

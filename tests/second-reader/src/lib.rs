@@ -2,7 +2,7 @@
 //! answer), written from document 01 and its readings alone.
 //!
 //! One pass over the octets decides everything: the walk counts rows and gathers what the
-//! exchange rules need while it goes, so [`verdict`] allocates nothing.
+//! exchange rules need while it goes, so [`verdict()`] allocates nothing.
 
 mod avp;
 mod book;

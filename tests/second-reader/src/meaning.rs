@@ -38,9 +38,7 @@ impl Meaning {
         if crate::verdict(octets).number != 0 {
             return None;
         }
-        let word = |at: usize| {
-            octets[at..at + 4].iter().fold(0, |word, &octet| word << 8 | u32::from(octet))
-        };
+        let word = |at: usize| octets[at..at + 4].iter().fold(0, |word, &octet| word << 8 | u32::from(octet));
         let mut avps = Vec::new();
         walk(octets, |at, depth, header, group| {
             let data = &octets[at + header.size..at + header.length];
@@ -66,8 +64,7 @@ impl Meaning {
             name: (place.vendor, place.code),
             flags: [place.m == 1, place.p == 1],
             length: place.length,
-            data: (!place.is_group())
-                .then(|| octets[place.start as usize..][..place.length as usize].to_vec()),
+            data: (!place.is_group()).then(|| octets[place.start as usize..][..place.length as usize].to_vec()),
         };
         Meaning {
             flags: [draft.r, draft.p, draft.e, draft.t].map(|flag| flag == 1),

@@ -11,13 +11,7 @@ use crate::writer::Written;
 /// One call: a refusal leaves the output, an acceptance what lies past the length; what is written
 /// has the draft's meaning and nothing but 0 in padding and reserved bits; and no number comes that
 /// a writer cannot give.
-pub fn call(
-    draft: &Draft,
-    octets: &[u8],
-    before: &[u8],
-    after: &[u8],
-    answer: &Written,
-) -> Result<(), String> {
+pub fn call(draft: &Draft, octets: &[u8], before: &[u8], after: &[u8], answer: &Written) -> Result<(), String> {
     let written = written(before, after, answer)?;
     match answer.verdict.number {
         number::ACCEPTED => {
@@ -95,8 +89,7 @@ pub fn pair(pair: &Pair, outcomes: &[Outcome; 2], outputs: [&[u8]; 2]) -> Result
     }
     for (a, b) in pair.lists[0].iter().zip(&pair.lists[1]) {
         if let (Lent::Own(a), Lent::Own(b)) = (&a.lent, &b.lent) {
-            if let (Some(meant_a), Some(meant_b)) = (Meaning::of_command(a), Meaning::of_command(b))
-            {
+            if let (Some(meant_a), Some(meant_b)) = (Meaning::of_command(a), Meaning::of_command(b)) {
                 if agree(a, b) != (meant_a == meant_b) {
                     return Err("two commands agree, or do not, against their meanings".into());
                 }

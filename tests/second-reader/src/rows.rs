@@ -21,12 +21,7 @@ pub struct Rows {
     pub session_first: bool,
 }
 
-const fn rows(
-    required: &'static [Kind],
-    optional: &'static [Kind],
-    any: &'static [Kind],
-    open: bool,
-) -> Rows {
+const fn rows(required: &'static [Kind], optional: &'static [Kind], any: &'static [Kind], open: bool) -> Rows {
     let needed = Kinds::of(required);
     let mut single = needed;
     let mut i = 0;
@@ -34,14 +29,7 @@ const fn rows(
         single = single.with(optional[i]);
         i += 1;
     }
-    Rows {
-        required,
-        needed,
-        single,
-        any: Kinds::of(any),
-        open,
-        session_first: needed.has(SessionId),
-    }
+    Rows { required, needed, single, any: Kinds::of(any), open, session_first: needed.has(SessionId) }
 }
 
 /// Background-Data-Transfer request.
@@ -94,18 +82,13 @@ pub static BTA: Rows = rows(
     true,
 );
 
-static VENDOR_SPECIFIC_APPLICATION_ID: Rows =
-    rows(&[VendorId], &[AuthApplicationId, AcctApplicationId], &[], false);
+static VENDOR_SPECIFIC_APPLICATION_ID: Rows = rows(&[VendorId], &[AuthApplicationId, AcctApplicationId], &[], false);
 static EXPERIMENTAL_RESULT: Rows = rows(&[VendorId, ExperimentalResultCode], &[], &[], false);
 static PROXY_INFO: Rows = rows(&[ProxyHost, ProxyState], &[], &[], true);
 static SUPPORTED_FEATURES: Rows = rows(&[VendorId, FeatureListId, FeatureList], &[], &[], true);
 static TIME_WINDOW: Rows = rows(&[TransferStartTime, TransferEndTime], &[], &[], true);
-static TRANSFER_POLICY: Rows = rows(
-    &[TransferPolicyId],
-    &[TimeWindow, RatingGroup, MaxRequestedBandwidthDl, MaxRequestedBandwidthUl],
-    &[],
-    true,
-);
+static TRANSFER_POLICY: Rows =
+    rows(&[TransferPolicyId], &[TimeWindow, RatingGroup, MaxRequestedBandwidthDl, MaxRequestedBandwidthUl], &[], true);
 
 /// The rows of a read group; none for any other AVP.
 #[inline]
@@ -172,11 +155,7 @@ impl Members {
         if self.fault.is_some() || self.seen.has_all(self.rows.needed) {
             return self.fault;
         }
-        self.rows
-            .required
-            .iter()
-            .find(|&&kind| !self.seen.has(kind))
-            .map(|&kind| missing(kind, end))
+        self.rows.required.iter().find(|&&kind| !self.seen.has(kind)).map(|&kind| missing(kind, end))
     }
 
     #[cold]

@@ -18,8 +18,7 @@ pub fn shrink(mut case: Case, mut fails: impl FnMut(&Case) -> bool) -> Case {
             }
         }
         for step in steps(&case) {
-            let (draft, output, size_before) =
-                (case.draft.clone(), case.output.clone(), size(&case));
+            let (draft, output, size_before) = (case.draft.clone(), case.output.clone(), size(&case));
             step(&mut case);
             if size(&case) >= size_before || !fails(&case) {
                 (case.draft, case.output) = (draft, output);

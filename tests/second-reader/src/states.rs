@@ -64,11 +64,7 @@ fn any_command(prng: &mut Prng) -> Vec<u8> {
 }
 
 /// One command by both.
-fn one(
-    octets: &[u8],
-    before: &[u8],
-    form: &mut impl FnMut(&[u8], &mut [u8]) -> Written,
-) -> Result<Written, String> {
+fn one(octets: &[u8], before: &[u8], form: &mut impl FnMut(&[u8], &mut [u8]) -> Written) -> Result<Written, String> {
     let (mut ours, mut expected) = (before.to_vec(), before.to_vec());
     let answer = form(octets, &mut ours);
     let second = canonical(octets, &mut expected);

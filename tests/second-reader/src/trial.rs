@@ -92,16 +92,13 @@ pub fn trial(
                 let small = shrink(case, |case| one(case, &mut writer).is_err());
                 let found = one(&small, &mut writer).err().unwrap_or_default();
                 let shown = Shown(&small);
-                return Err(format!(
-                    "seed {seed}, draft {ordinal}: {words}\nmade small: {found}\n{shown}"
-                ));
+                return Err(format!("seed {seed}, draft {ordinal}: {words}\nmade small: {found}\n{shown}"));
             }
         }
     }
     for ordinal in 1..=pairs {
         let pair = pair(&mut prng);
-        let outcomes = both(&pair, &mut writer)
-            .map_err(|words| format!("seed {seed}, pair {ordinal}: {words}"))?;
+        let outcomes = both(&pair, &mut writer).map_err(|words| format!("seed {seed}, pair {ordinal}: {words}"))?;
         let same = outcomes[0].meanings == outcomes[1].meanings;
         *report.pairs.entry((pair.change, pair.room, same)).or_default() += 1;
         for answer in outcomes.iter().flat_map(|outcome| &outcome.answers) {
@@ -112,10 +109,7 @@ pub fn trial(
 }
 
 /// One draft by both writers.
-fn one(
-    case: &Case,
-    writer: &mut impl FnMut(&Draft, &[u8], &mut [u8]) -> Written,
-) -> Result<Written, String> {
+fn one(case: &Case, writer: &mut impl FnMut(&Draft, &[u8], &mut [u8]) -> Written) -> Result<Written, String> {
     let (draft, octets) = (&case.draft, &case.octets);
     let (mut ours, mut expected) = (case.output.clone(), case.output.clone());
     let answer = writer(draft, octets, &mut ours);
@@ -134,10 +128,7 @@ fn one(
 }
 
 /// One pair of lists by both writers.
-fn both(
-    pair: &Pair,
-    writer: &mut impl FnMut(&Draft, &[u8], &mut [u8]) -> Written,
-) -> Result<[Outcome; 2], String> {
+fn both(pair: &Pair, writer: &mut impl FnMut(&Draft, &[u8], &mut [u8]) -> Written) -> Result<[Outcome; 2], String> {
     let mut ours = pair.outputs.clone();
     let mut expected = pair.outputs.clone();
     let [a, b] = &mut ours;

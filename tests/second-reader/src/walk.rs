@@ -98,13 +98,7 @@ struct List {
 
 impl<K: Keep> Walk<'_, K> {
     /// Reads the list from `from` to `to`.
-    fn list(
-        &mut self,
-        rows: &'static Rows,
-        depth: u8,
-        from: usize,
-        to: usize,
-    ) -> Result<List, Verdict> {
+    fn list(&mut self, rows: &'static Rows, depth: u8, from: usize, to: usize) -> Result<List, Verdict> {
         let order = self.count;
         let mut members = Members::of(rows);
         let mut list = List { seen: Kinds::default(), start_time: 0, end_time: 0, end_time_at: 0 };
@@ -137,12 +131,8 @@ impl<K: Keep> Walk<'_, K> {
                     };
                     let value = u32::from_be_bytes(value);
                     match kind {
-                        Kind::AuthSessionState if value != 1 => {
-                            return refuse(number::INVALID_AVP_VALUE)
-                        }
-                        Kind::TransferRequestType if value > 1 => {
-                            return refuse(number::INVALID_AVP_VALUE)
-                        }
+                        Kind::AuthSessionState if value != 1 => return refuse(number::INVALID_AVP_VALUE),
+                        Kind::TransferRequestType if value > 1 => return refuse(number::INVALID_AVP_VALUE),
                         Kind::TransferRequestType if depth == 1 => self.found.request_type = value,
                         Kind::TransferStartTime => list.start_time = value,
                         Kind::TransferEndTime => {
@@ -185,15 +175,12 @@ impl<K: Keep> Walk<'_, K> {
         match kind {
             Kind::TimeWindow if list.end_time <= list.start_time => {
                 let (vendor, code) = (Kind::TransferEndTime.vendor(), Kind::TransferEndTime.code());
-                let fault =
-                    Verdict::named(number::INVALID_AVP_VALUE, list.end_time_at, vendor, code);
+                let fault = Verdict::named(number::INVALID_AVP_VALUE, list.end_time_at, vendor, code);
                 self.windows.note(order, fault);
             }
             Kind::TransferPolicy if depth == 1 => {
                 self.found.policies += 1;
-                let lacks = [Kind::TimeWindow, Kind::RatingGroup]
-                    .into_iter()
-                    .find(|&member| !list.seen.has(member));
+                let lacks = [Kind::TimeWindow, Kind::RatingGroup].into_iter().find(|&member| !list.seen.has(member));
                 if let Some(member) = lacks {
                     self.found.policy_fault.get_or_insert(missing(member, end));
                 }

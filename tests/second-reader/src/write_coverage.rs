@@ -98,8 +98,7 @@ impl Cell {
             cells.extend(READER.map(|number| Cell::Refused(number, room)));
             cells.extend(Origin::SOUND.map(|origin| Cell::Accepted(origin, room)));
         }
-        let features =
-            [Overlap, PartAtTheEnd, EmptyPartAtTheEnd, GroupElsewhere, MostAvps, Longest, Depth4];
+        let features = [Overlap, PartAtTheEnd, EmptyPartAtTheEnd, GroupElsewhere, MostAvps, Longest, Depth4];
         cells.extend(features.map(Cell::AcceptedWith));
         cells
     }
@@ -165,13 +164,9 @@ fn excess(length: u64) -> Excess {
 
 fn features(draft: &Draft, octets: &[u8]) -> Vec<Feature> {
     let end = octets.len() as u32;
-    let (groups, plain): (Vec<Place>, Vec<Place>) =
-        draft.used().iter().partition(|place| place.is_group());
-    let mut parts: Vec<(u32, u32)> = plain
-        .iter()
-        .filter(|place| place.length > 0)
-        .map(|place| (place.start, place.start + place.length))
-        .collect();
+    let (groups, plain): (Vec<Place>, Vec<Place>) = draft.used().iter().partition(|place| place.is_group());
+    let mut parts: Vec<(u32, u32)> =
+        plain.iter().filter(|place| place.length > 0).map(|place| (place.start, place.start + place.length)).collect();
     parts.sort_unstable();
     let empty_at_end = plain.iter().any(|place| place.length == 0 && place.start == end);
     [

@@ -82,8 +82,7 @@ fn is_tree(places: &[Place]) -> bool {
 /// Whether each read group's length is that of its members with padding.
 fn has_group_lengths(places: &[Place]) -> bool {
     avps(places).all(|(place, members)| {
-        !place.is_group()
-            || (u64::from(place.length) == list_length(members) && has_group_lengths(members))
+        !place.is_group() || (u64::from(place.length) == list_length(members) && has_group_lengths(members))
     })
 }
 
@@ -103,13 +102,7 @@ fn encode(draft: &Draft, octets: &[u8]) -> Vec<u8> {
     put_list(draft.used(), octets, &mut out);
     let length = out.len() as u32;
     let flags = draft.r << 7 | draft.p << 6 | draft.e << 5 | draft.t << 4;
-    let words = [
-        1 << 24 | length,
-        flags << 24 | COMMAND_CODE,
-        APPLICATION,
-        draft.hop_by_hop,
-        draft.end_to_end,
-    ];
+    let words = [1 << 24 | length, flags << 24 | COMMAND_CODE, APPLICATION, draft.hop_by_hop, draft.end_to_end];
     for (octets, word) in out.chunks_exact_mut(4).zip(words) {
         octets.copy_from_slice(&word.to_be_bytes());
     }

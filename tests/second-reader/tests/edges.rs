@@ -1,5 +1,6 @@
 //! Every case of 01's "Commands at the edges", its worked book, and the readings.
 
+use commands::{s_list, S};
 use second_reader::{data, listing, number, read, search, verdict, Avp, Record, Verdict};
 
 const TGPP: u32 = 10_415;
@@ -43,25 +44,6 @@ fn command(flags: u8, avps: &[Vec<u8>]) -> Vec<u8> {
 
 fn h() -> Vec<u8> {
     command(0xC0, &[])
-}
-
-fn s_list() -> Vec<Vec<u8>> {
-    vec![
-        plain(263, b"s"),
-        plain(260, &plain(266, &four(TGPP))),
-        plain(277, &four(1)),
-        plain(264, b"o"),
-        plain(296, b"r"),
-        plain(283, b"d"),
-        tgpp(4203, &four(1)),
-        plain(293, b"h"),
-        tgpp(4202, b"i"),
-        tgpp(4208, &four(7)),
-    ]
-}
-
-fn s() -> Vec<u8> {
-    command(0xC0, &s_list())
 }
 
 fn window(start: u32, end: u32) -> Vec<u8> {
@@ -150,17 +132,12 @@ fn avp_edges() {
 
 #[test]
 fn s_and_its_neighbours() {
-    let s = s();
-    assert_eq!(s.len(), 160);
-    assert_eq!(judge(&s), (0, 0, 0, 0));
-    let record = read(&s).record;
+    assert_eq!(judge(&S), (0, 0, 0, 0));
+    let record = read(&S).record;
     assert_eq!(record.avps.len(), 11);
     assert_eq!((record.r, record.p, record.e, record.t), (true, true, false, false));
     assert_eq!((record.hop_by_hop, record.end_to_end), (1, 2));
-    assert_eq!(
-        record.avps[2],
-        Avp { depth: 2, vendor: 0, code: 266, m: true, p: false, start: 48, length: 4 }
-    );
+    assert_eq!(record.avps[2], Avp { depth: 2, vendor: 0, code: 266, m: true, p: false, start: 48, length: 4 });
     let mut list = s_list();
     list.pop();
     assert_eq!(judge(&command(0xC0, &list)), (5005, 144, TGPP, 4208));
@@ -171,9 +148,7 @@ fn s_and_its_neighbours() {
 
 #[test]
 fn windows() {
-    for (start, end, accepted) in
-        [(10, 10, false), (10, 11, true), (11, 10, false), (0x7FFF_FFFF, 0x8000_0000, true)]
-    {
+    for (start, end, accepted) in [(10, 10, false), (10, 11, true), (11, 10, false), (0x7FFF_FFFF, 0x8000_0000, true)] {
         let mut list = s_list();
         list.push(window(start, end));
         let expected = if accepted { (0, 0, 0, 0) } else { (5004, 188, TGPP, 4205) };
@@ -213,8 +188,7 @@ fn limits() {
 
 #[test]
 fn depth() {
-    let proxy =
-        |inner: &[u8]| plain(284, &[plain(280, b"h"), plain(33, b"s"), inner.to_vec()].concat());
+    let proxy = |inner: &[u8]| plain(284, &[plain(280, b"h"), plain(33, b"s"), inner.to_vec()].concat());
     let with = |group: Vec<u8>| {
         let mut list = s_list();
         list.push(group);
@@ -324,30 +298,29 @@ fn looks_right_and_is_not() {
 
 #[test]
 fn record_parts() {
-    let s = s();
-    let mut record = read(&s).record;
-    assert_eq!(data(&record, 2, &s), four(TGPP));
-    assert_eq!(data(&record, 1, &s).len(), 12);
-    assert_eq!(data(&record, 11, &s), b"");
-    assert_eq!(data(&record, 10, &s[..159]), b"");
+    let mut record = read(&S).record;
+    assert_eq!(data(&record, 2, &S), four(TGPP));
+    assert_eq!(data(&record, 1, &S).len(), 12);
+    assert_eq!(data(&record, 11, &S), b"");
+    assert_eq!(data(&record, 10, &S[..159]), b"");
     assert_eq!(search(&record, TGPP, 4208), Some(10));
     assert_eq!(search(&record, 0, 266), None);
     assert_eq!(search(&record, 0, 4208), None);
     record.avps[3].start = u32::MAX;
     record.avps[3].length = u32::MAX;
-    assert_eq!(data(&record, 3, &s), b"");
+    assert_eq!(data(&record, 3, &S), b"");
     // A count above 256 is read as 256.
     record.avps.resize(256, Avp::default());
     record.avps.push(Avp { depth: 1, vendor: 0, code: 5, m: false, p: false, start: 0, length: 1 });
     assert_eq!(search(&record, 0, 5), None);
-    assert_eq!(data(&record, 256, &s), b"");
+    assert_eq!(data(&record, 256, &S), b"");
 }
 
 #[test]
 fn books() {
     let book = |commands: &[Vec<u8>]| [b"NTB\x00\x01".to_vec(), commands.concat()].concat();
     assert_eq!(listing(&book(&[h()])), b"NTB 1\n1 5 5005 20 0 263\nend 1 0\n");
-    let two = listing(&book(&[s(), h()]));
+    let two = listing(&book(&[S.to_vec(), h()]));
     assert_eq!(two, b"NTB 1\n1 5 0 0 0 0\n2 165 5005 20 0 263\nend 2 1\n");
     assert_eq!(listing(&book(&[])), b"NTB 1\nend 0 0\n");
     for stray in [vec![1], vec![1, 0, 0], vec![1, 0, 0, 19], vec![1, 0, 0, 20, 0, 0]] {

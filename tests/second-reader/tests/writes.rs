@@ -1,29 +1,13 @@
 //! The writer: what it writes, each of 7006's conditions, the order of refusals, and the limits.
 //! Expected octets and numbers are 01's, by hand.
 
+use commands::S;
 use second_reader::{read, verdict, write, Draft, Place, Written};
 
 const TGPP: u32 = 10_415;
 
-/// 01's S: 160 octets, 11 AVPs.
-#[rustfmt::skip]
-const S: [u8; 160] = [
-    1, 0, 0, 160, 0xC0, 0x80, 0, 0x73, 1, 0, 0, 0x84, 0, 0, 0, 1, 0, 0, 0, 2,
-    0, 0, 0x01, 0x07, 0x40, 0, 0, 9, b's', 0, 0, 0,
-    0, 0, 0x01, 0x04, 0x40, 0, 0, 20,
-    0, 0, 0x01, 0x0A, 0x40, 0, 0, 12, 0, 0, 0x28, 0xAF,
-    0, 0, 0x01, 0x15, 0x40, 0, 0, 12, 0, 0, 0, 1,
-    0, 0, 0x01, 0x08, 0x40, 0, 0, 9, b'o', 0, 0, 0,
-    0, 0, 0x01, 0x28, 0x40, 0, 0, 9, b'r', 0, 0, 0,
-    0, 0, 0x01, 0x1B, 0x40, 0, 0, 9, b'd', 0, 0, 0,
-    0, 0, 0x10, 0x6B, 0xC0, 0, 0, 16, 0, 0, 0x28, 0xAF, 0, 0, 0, 1,
-    0, 0, 0x01, 0x25, 0x40, 0, 0, 9, b'h', 0, 0, 0,
-    0, 0, 0x10, 0x6A, 0xC0, 0, 0, 13, 0, 0, 0x28, 0xAF, b'i', 0, 0, 0,
-    0, 0, 0x10, 0x70, 0xC0, 0, 0, 16, 0, 0, 0x28, 0xAF, 0, 0, 0, 7,
-];
-
 /// What the lent octets of `s_draft` hold: each part once, out of the command's order.
-const LENT: &[u8; 21] = b"ihdros\0\0\0\x07\0\0\0\x01\0\0\x28\xAF???";
+const LENT: &[u8; 21] = b"fedrhs\0\0\0\x07\0\0\0\x01\0\0\x28\xAF???";
 
 fn place(depth: u32, vendor: u32, code: u32, start: u32, length: u32) -> Place {
     Place { depth, vendor, code, m: 1, p: 0, start, length }
@@ -153,11 +137,8 @@ fn parts() {
     for (start, length) in [(21, 0), (20, 1), (0, 21), (7, 14)] {
         assert_eq!(answer(&behind(start, length), LENT)[0], 0, "{start} {length}");
     }
-    let far =
-        [(u32::MAX, 0), (u32::MAX, 1), (0, u32::MAX), (u32::MAX, u32::MAX), (1 << 31, 1 << 31)];
-    for (start, length) in
-        [(22, 0), (21, 1), (0, 22), (8, 14), (5, u32::MAX - 4)].into_iter().chain(far)
-    {
+    let far = [(u32::MAX, 0), (u32::MAX, 1), (0, u32::MAX), (u32::MAX, u32::MAX), (1 << 31, 1 << 31)];
+    for (start, length) in [(22, 0), (21, 1), (0, 22), (8, 14), (5, u32::MAX - 4)].into_iter().chain(far) {
         assert_eq!(answer(&behind(start, length), LENT), MALFORMED, "{start} {length}");
     }
     assert_eq!(answer(&s_draft(), &LENT[..17]), MALFORMED);
@@ -174,9 +155,7 @@ fn depths() {
         draft.places[at].depth = depth;
         answer(&draft, LENT)
     };
-    for (at, depth) in
-        [(0, 0), (0, 2), (0, 4), (2, 0), (10, 0), (2, 3), (2, 5), (1, 2), (3, 3), (10, 2)]
-    {
+    for (at, depth) in [(0, 0), (0, 2), (0, 4), (2, 0), (10, 0), (2, 3), (2, 5), (1, 2), (3, 3), (10, 2)] {
         assert_eq!(with_depth(at, depth), MALFORMED, "{at} {depth}");
     }
     // 277 in the 260: the group's length is not that of its members.
@@ -216,9 +195,7 @@ fn depth_4_and_5() {
 #[test]
 fn group_lengths() {
     // 280 of one octet, then 33 of two: 12 and 12 octets.
-    let group = |length| {
-        s_with(&[place(1, 0, 284, 0, length), place(2, 0, 280, 0, 1), place(2, 0, 33, 0, 2)])
-    };
+    let group = |length| s_with(&[place(1, 0, 284, 0, length), place(2, 0, 280, 0, 1), place(2, 0, 33, 0, 2)]);
     assert_eq!(answer(&group(24), LENT), [0, 0, 0, 0, 192]);
     for length in [0, 12, 20, 22, 23, 25, 28, u32::MAX] {
         assert_eq!(answer(&group(length), LENT), MALFORMED, "{length}");
@@ -235,10 +212,7 @@ fn group_lengths() {
     assert_eq!(answer(&inner(28), LENT), MALFORMED);
     // What is no read group has any length and no members.
     assert_eq!(answer(&s_with(&[place(1, 0, 279, 0, 13)]), LENT)[0], 0);
-    assert_eq!(
-        answer(&s_with(&[place(1, 0, 279, 0, 12), place(2, 0, 280, 0, 1)]), LENT),
-        MALFORMED
-    );
+    assert_eq!(answer(&s_with(&[place(1, 0, 279, 0, 12), place(2, 0, 280, 0, 1)]), LENT), MALFORMED);
 }
 
 #[test]
@@ -273,10 +247,7 @@ fn limits() {
     // Many overlapping parts, together longer than any output.
     assert_eq!(answer(&s_with(&[place(1, 0, 282, 0, 20_000); 245]), &octets), TOO_LONG);
     // 256 AVPs.
-    assert_eq!(
-        answer(&s_with(&[place(1, 0, 282, 0, 0); 245]), &octets),
-        [0, 0, 0, 0, 160 + 245 * 8]
-    );
+    assert_eq!(answer(&s_with(&[place(1, 0, 282, 0, 0); 245]), &octets), [0, 0, 0, 0, 160 + 245 * 8]);
 }
 
 #[test]

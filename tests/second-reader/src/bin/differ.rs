@@ -23,8 +23,7 @@ fn main() -> ExitCode {
     let (Ok(seed), Ok(number)) = (seed, number) else {
         return usage();
     };
-    let mut differ =
-        Differ { program, keep: mode == "keep", differences: 0, coverage: Coverage::default() };
+    let mut differ = Differ { program, keep: mode == "keep", differences: 0, coverage: Coverage::default() };
     let done = match mode {
         "" | "keep" => differ.books(seed, number),
         "sweep" => differ.sweeps(seed, number),

@@ -9,14 +9,8 @@ use crate::rows::{self, Rows};
 use Kind::*;
 
 /// The read groups.
-pub const GROUPS: [Kind; 6] = [
-    VendorSpecificApplicationId,
-    ExperimentalResult,
-    ProxyInfo,
-    SupportedFeatures,
-    TimeWindow,
-    TransferPolicy,
-];
+pub const GROUPS: [Kind; 6] =
+    [VendorSpecificApplicationId, ExperimentalResult, ProxyInfo, SupportedFeatures, TimeWindow, TransferPolicy];
 
 /// A sound command, rarely one that a limit refuses.
 pub fn command(prng: &mut Prng) -> Tree {
@@ -208,9 +202,7 @@ fn members(kind: Kind, depth: usize, prng: &mut Prng) -> Vec<Node> {
     let mut list = required(rows, inner, prng);
     let optional: &[Kind] = match kind {
         VendorSpecificApplicationId => &[AuthApplicationId, AcctApplicationId],
-        TransferPolicy => {
-            &[TimeWindow, RatingGroup, MaxRequestedBandwidthDl, MaxRequestedBandwidthUl]
-        }
+        TransferPolicy => &[TimeWindow, RatingGroup, MaxRequestedBandwidthDl, MaxRequestedBandwidthUl],
         _ => &[],
     };
     for &kind in optional {
@@ -272,14 +264,7 @@ fn extra(rows: &Rows, depth: usize, prng: &mut Prng) -> Option<Node> {
     let kind = match prng.below(5) {
         0 | 1 => return Some(unknown(prng)),
         2 => prng.pick(&GROUPS),
-        3 => prng.pick(&[
-            ProxyInfo,
-            RouteRecord,
-            SupportedFeatures,
-            Load,
-            RedirectHost,
-            TransferPolicy,
-        ]),
+        3 => prng.pick(&[ProxyInfo, RouteRecord, SupportedFeatures, Load, RedirectHost, TransferPolicy]),
         _ => prng.pick(Kind::ALL),
     };
     if rows.single.has(kind) || (depth > 3 && kind.form() == Form::Group) {
@@ -301,9 +286,7 @@ pub fn fill(tree: &mut Tree, goal: usize, prng: &mut Prng) {
         }
         let groups: Vec<usize> = (0..tree.list.len())
             .filter(|&i| {
-                [ProxyInfo, SupportedFeatures, TimeWindow, TransferPolicy]
-                    .iter()
-                    .any(|&kind| tree.list[i].is(kind))
+                [ProxyInfo, SupportedFeatures, TimeWindow, TransferPolicy].iter().any(|&kind| tree.list[i].is(kind))
             })
             .collect();
         if groups.is_empty() || !prng.one_in(4) {

@@ -56,9 +56,7 @@ fn apply(way: Way, draft: &mut Draft, octets: &mut Vec<u8>, prng: &mut Prng) -> 
             place.start = match prng.below(4) {
                 // The sum, cut to 32 bits, lies in the octets.
                 0 if place.length > 0 => back,
-                1 if place.length > 0 => {
-                    back + prng.below(octets.len()).min(place.length as usize - 1) as u32
-                }
+                1 if place.length > 0 => back + prng.below(octets.len()).min(place.length as usize - 1) as u32,
                 2 => 1 << 31,
                 _ => u32::MAX - prng.below(4) as u32,
             };
@@ -69,12 +67,9 @@ fn apply(way: Way, draft: &mut Draft, octets: &mut Vec<u8>, prng: &mut Prng) -> 
         }
         Way::FirstDepth0 => draft.used_mut().first_mut()?.depth = 0,
         Way::FirstDepth2 => draft.used_mut().first_mut()?.depth = prng.pick(&[2, 2, 3, 4]),
-        Way::Depth0 => {
-            draft.used_mut().get_mut(1..).and_then(|later| some(later, prng, |_| true))?.depth = 0
-        }
+        Way::Depth0 => draft.used_mut().get_mut(1..).and_then(|later| some(later, prng, |_| true))?.depth = 0,
         Way::JumpByTwo => {
-            let at =
-                after(draft, prng, |a, b| a.is_group() && a.depth < 3 && b.depth == a.depth + 1)?;
+            let at = after(draft, prng, |a, b| a.is_group() && a.depth < 3 && b.depth == a.depth + 1)?;
             draft.places[at].depth += 1;
             settled(draft, prng);
         }
@@ -104,11 +99,8 @@ fn apply(way: Way, draft: &mut Draft, octets: &mut Vec<u8>, prng: &mut Prng) -> 
             group.length = group.length.wrapping_add(more);
         }
         Way::GroupWithoutPadding => {
-            let at = some_group(draft, prng, |_, last| {
-                last.padded() != last.header() + u64::from(last.length)
-            })?;
-            let padding = last_member(draft, at)
-                .map(|last| last.padded() - last.header() - u64::from(last.length))?;
+            let at = some_group(draft, prng, |_, last| last.padded() != last.header() + u64::from(last.length))?;
+            let padding = last_member(draft, at).map(|last| last.padded() - last.header() - u64::from(last.length))?;
             let group = &mut draft.places[at];
             group.length = group.length.wrapping_sub(padding as u32);
         }

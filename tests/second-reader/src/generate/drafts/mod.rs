@@ -91,6 +91,5 @@ pub fn moved(draft: &Draft, octets: &[u8], prng: &mut Prng) -> (Draft, Vec<u8>) 
 
 /// Whether the writer accepts the draft, given room.
 pub fn is_accepted(draft: &Draft, octets: &[u8]) -> bool {
-    length(draft) <= LONGEST_COMMAND as u64
-        && write(draft, octets, &mut [0; LONGEST_COMMAND]).verdict.number == 0
+    length(draft) <= LONGEST_COMMAND as u64 && write(draft, octets, &mut [0; LONGEST_COMMAND]).verdict.number == 0
 }

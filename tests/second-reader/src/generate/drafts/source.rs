@@ -189,15 +189,7 @@ fn wild(prng: &mut Prng) -> (Draft, Vec<u8>) {
     let used = if prng.one_in(2) { draft.used().len() } else { MOST_AVPS };
     for place in &mut draft.places[..used] {
         let mut n = || number(prng);
-        *place = Place {
-            depth: n() % 6,
-            vendor: n(),
-            code: n(),
-            m: n() % 3,
-            p: n() % 3,
-            start: n(),
-            length: n(),
-        };
+        *place = Place { depth: n() % 6, vendor: n(), code: n(), m: n() % 3, p: n() % 3, start: n(), length: n() };
     }
     (draft, octets)
 }

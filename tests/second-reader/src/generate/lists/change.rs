@@ -69,19 +69,13 @@ fn meaning(call: &Call) -> Meaning {
 }
 
 /// The draft with one thing changed that belongs to its meaning.
-fn draft_changed(
-    change: Change,
-    draft: &Draft,
-    octets: &[u8],
-    prng: &mut Prng,
-) -> Option<(Draft, Vec<u8>)> {
+fn draft_changed(change: Change, draft: &Draft, octets: &[u8], prng: &mut Prng) -> Option<(Draft, Vec<u8>)> {
     let (mut draft, mut octets) = (draft.clone(), octets.to_vec());
     let used = draft.used().len();
     let at = prng.below(used);
     match change {
         Change::DataOctet => {
-            let place =
-                draft.used().get(at).filter(|place| !place.is_group() && place.length > 0)?;
+            let place = draft.used().get(at).filter(|place| !place.is_group() && place.length > 0)?;
             let octet = place.start as usize + prng.below(place.length as usize);
             octets[octet] ^= 1 << prng.below(8);
         }
@@ -109,8 +103,7 @@ fn draft_changed(
             if one.is_group() || two.is_group() || one.length == 0 {
                 return None;
             }
-            let mut data: Vec<Vec<u8>> =
-                draft.used().iter().map(|place| part(place, &octets)).collect();
+            let mut data: Vec<Vec<u8>> = draft.used().iter().map(|place| part(place, &octets)).collect();
             let cut = prng.below(data[at].len());
             let mut tail = data[at].split_off(cut);
             tail.append(&mut data[at + 1]);
@@ -127,8 +120,7 @@ fn draft_changed(
             let [one, two] = draft.used().get(at..at + 2)? else {
                 return None;
             };
-            let same = part(one, &octets) == part(two, &octets)
-                && Place { start: two.start, ..*one } == *two;
+            let same = part(one, &octets) == part(two, &octets) && Place { start: two.start, ..*one } == *two;
             if one.is_group() || two.is_group() || one.depth != two.depth || same {
                 return None;
             }

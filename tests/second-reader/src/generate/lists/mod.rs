@@ -81,8 +81,7 @@ pub struct Pair {
 
 /// A pair of lists.
 pub fn pair(prng: &mut Prng) -> Pair {
-    let change =
-        if prng.one_in(3) { prng.pick(&Change::KEEPING) } else { prng.pick(&Change::TELLING) };
+    let change = if prng.one_in(3) { prng.pick(&Change::KEEPING) } else { prng.pick(&Change::TELLING) };
     loop {
         let first = list(prng);
         let Some(second) = changed(change, &first, prng) else {
@@ -124,11 +123,8 @@ fn insert_refusals(list: &mut Vec<Call>, prng: &mut Prng) {
 
 /// An output with room for all, or for less.
 fn output(list: &[Call], room: bool, prng: &mut Prng) -> Vec<u8> {
-    let all: u64 = list
-        .iter()
-        .map(|call| crate::length(&call.draft))
-        .filter(|&length| length <= LONGEST_COMMAND as u64)
-        .sum();
+    let all: u64 =
+        list.iter().map(|call| crate::length(&call.draft)).filter(|&length| length <= LONGEST_COMMAND as u64).sum();
     let length = if room { all as usize + prng.below(9) } else { prng.below(all as usize + 1) };
     prng.octets(length)
 }

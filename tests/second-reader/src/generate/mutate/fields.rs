@@ -123,8 +123,7 @@ pub fn window(tree: &mut Tree, prng: &mut Prng) {
             |node| node.is(TimeWindow),
             |node, prng| {
                 if let Body::Members(members) = &mut node.body {
-                    members
-                        .insert(prng.below(members.len() + 1), sound::known(TimeWindow, 3, prng));
+                    members.insert(prng.below(members.len() + 1), sound::known(TimeWindow, 3, prng));
                 }
             },
         );
@@ -137,8 +136,7 @@ pub fn window(tree: &mut Tree, prng: &mut Prng) {
 /// Sets a window's times, in most cases not in order.
 fn set_times(node: &mut Node, prng: &mut Prng) {
     if node.is(TimeWindow) {
-        let base =
-            prng.pick(&[0u32, 10, 255, 256, 0x7FFF_FFFF, 0x8000_0000, u32::MAX, 0x0102_0304]);
+        let base = prng.pick(&[0u32, 10, 255, 256, 0x7FFF_FFFF, 0x8000_0000, u32::MAX, 0x0102_0304]);
         let other = match prng.below(5) {
             0 => base,
             1 => base.wrapping_add(1),

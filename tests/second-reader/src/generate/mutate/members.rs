@@ -36,19 +36,15 @@ pub fn drop_ruled(tree: &mut Tree, prng: &mut Prng) {
         TransferRequestType,
     ];
     let exchange = if prng.one_in(2) { 10 } else { ruled.len() };
-    let there: Vec<Kind> = ruled[..exchange]
-        .iter()
-        .copied()
-        .filter(|&kind| tree.list.iter().any(|node| node.is(kind)))
-        .collect();
+    let there: Vec<Kind> =
+        ruled[..exchange].iter().copied().filter(|&kind| tree.list.iter().any(|node| node.is(kind))).collect();
     if there.is_empty() {
         return;
     }
     for _ in 0..prng.pick(&[1, 1, 1, 2, 3, 5]) {
         let gone = prng.pick(&there);
         tree.list.retain(|node| {
-            let volume =
-                gone == CcOutputOctets && (node.is(CcInputOctets) || node.is(CcTotalOctets));
+            let volume = gone == CcOutputOctets && (node.is(CcInputOctets) || node.is(CcTotalOctets));
             !node.is(gone) && !volume
         });
     }
@@ -111,8 +107,7 @@ pub fn intrude(tree: &mut Tree, prng: &mut Prng) {
         sound::known(prng.pick(Kind::ALL), 3, prng)
     };
     if prng.one_in(3) {
-        let closed =
-            |node: &Node| node.is(VendorSpecificApplicationId) || node.is(ExperimentalResult);
+        let closed = |node: &Node| node.is(VendorSpecificApplicationId) || node.is(ExperimentalResult);
         one(tree, prng, closed, |group, prng| {
             if let Body::Members(members) = &mut group.body {
                 members.insert(prng.below(members.len() + 1), node.clone());

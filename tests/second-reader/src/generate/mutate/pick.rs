@@ -5,8 +5,7 @@ use crate::generate::tree::{Body, Node, Tree};
 
 /// A list of the command: its own or, as likely, one below.
 pub fn some_list<'a>(list: &'a mut Vec<Node>, prng: &mut Prng) -> &'a mut Vec<Node> {
-    let groups: Vec<usize> =
-        (0..list.len()).filter(|&i| matches!(list[i].body, Body::Members(_))).collect();
+    let groups: Vec<usize> = (0..list.len()).filter(|&i| matches!(list[i].body, Body::Members(_))).collect();
     if groups.is_empty() || prng.one_in(3) {
         return list;
     }
@@ -34,12 +33,7 @@ pub fn each(list: &mut [Node], change: &mut impl FnMut(&mut Node)) {
 }
 
 /// Does `change` to one of the AVPs that `wanted` picks.
-pub fn one(
-    tree: &mut Tree,
-    prng: &mut Prng,
-    wanted: impl Fn(&Node) -> bool,
-    change: impl Fn(&mut Node, &mut Prng),
-) {
+pub fn one(tree: &mut Tree, prng: &mut Prng, wanted: impl Fn(&Node) -> bool, change: impl Fn(&mut Node, &mut Prng)) {
     let mut number = 0;
     each(&mut tree.list, &mut |node| number += usize::from(wanted(node)));
     let chosen = prng.below(number);
