@@ -27,7 +27,7 @@ mod boundary;
 pub const MOST_AVPS: usize = 256;
 
 /// The numbers of a log, seven for each AVP.
-pub const LOG_NUMBERS: usize = 7 * MOST_AVPS;
+pub(crate) const LOG_NUMBERS: usize = 7 * MOST_AVPS;
 
 /// The numbers of a record: seven for the command, then seven for each position.
 pub const RECORD_NUMBERS: usize = 7 + 7 * MOST_AVPS;
@@ -66,7 +66,7 @@ impl std::error::Error for Verdict {}
 #[repr(C)]
 #[derive(Clone, Copy, Debug, PartialEq, Eq, Hash)]
 pub struct Written {
-    /// The answer; 7006, 7001 and 7004 have place, vendor and code 0.
+    /// The answer; 7006, 7004 and the writer's 7001 have place, vendor and code 0.
     pub verdict: Verdict,
     /// How many octets were written, 0 with a refusal.
     pub length: u32,
@@ -98,8 +98,9 @@ pub struct Avp {
     pub length: u32,
 }
 
-/// The record of a command, as the numbers that cross the boundary.
-#[derive(Clone, Debug, PartialEq, Eq)]
+/// The record of a command, as the numbers that cross the boundary. Records are not compared: two commands of different
+/// meaning can have the same numbers, since the data octets are not among them. [`canonical`] names a state.
+#[derive(Clone, Debug)]
 pub struct Record {
     numbers: Box<[u32; RECORD_NUMBERS]>,
 }
@@ -231,7 +232,7 @@ pub fn canonical(octets: &[u8], out: &mut [u8]) -> Written {
     boundary::canonical(octets, out)
 }
 
-/// Judges commands one after the other with one log, and makes no record.
+/// Judges commands one after the other with one log, which is scratch memory, and makes no record.
 #[derive(Clone, Debug)]
 pub struct Reader {
     log: Box<[u32; LOG_NUMBERS]>,
@@ -246,12 +247,6 @@ impl Reader {
     /// The verdict of a command. It does not depend on the commands judged before.
     pub fn verdict(&mut self, octets: &[u8]) -> Verdict {
         boundary::verdict(octets, &mut self.log)
-    }
-
-    /// The log: the AVPs that the last walk met, up to a fault, seven numbers for each: depth, vendor, code, M, P,
-    /// start and end of the data. Behind them stands what earlier walks left.
-    pub fn log(&self) -> &[u32; LOG_NUMBERS] {
-        &self.log
     }
 }
 

@@ -59,11 +59,10 @@ fn any_numbers_are_a_record() {
 
 #[test]
 fn refusals_have_number_place_vendor_and_code() {
-    assert_eq!(read(&shorter()), Err(refusal(5005, 144, 10415, 4208)));
-    assert_eq!(read(&[]), Err(refusal(5015, 0, 0, 0)));
+    assert_eq!(read(&shorter()).unwrap_err(), refusal(5005, 144, 10415, 4208));
+    assert_eq!(read(&[]).unwrap_err(), refusal(5015, 0, 0, 0));
     let mut reader = Reader::new();
     assert!(reader.verdict(&S).is_accepted());
-    assert_eq!(reader.log()[70..77], [1, 10415, 4208, 1, 0, 156, 160]);
     assert_eq!(reader.verdict(&H), refusal(5005, 20, 0, 263));
     let edges = [(0, 2, 5011, 0), (3, 24, 5015, 1), (11, 0x82, 3007, 8), (4, 0xE0, 3008, 4), (4, 0x60, 7005, 4)];
     for (at, octet, number, place) in edges {
