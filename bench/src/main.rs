@@ -7,55 +7,59 @@
 //! rounds are printed.
 
 use std::hint::black_box;
+use std::process::ExitCode;
 use std::time::{Duration, Instant};
 
 /// Octets that a round goes through at least.
 const OCTETS: usize = 20_000_000;
 const ROUNDS: usize = 21;
 
-fn main() {
-    let seed = std::env::args().nth(1).and_then(|word| word.parse().ok()).unwrap_or(bench::SEED);
+fn main() -> ExitCode {
+    let words: Vec<String> = std::env::args().skip(1).collect();
+    let seed = match words.as_slice() {
+        [] => Some(bench::SEED),
+        [word] => word.parse().ok(),
+        _ => None,
+    };
+    let Some(seed) = seed else {
+        eprintln!("usage: bench [SEED] (a number, {} if there is none)", bench::SEED);
+        return ExitCode::from(2);
+    };
+    if cfg!(debug_assertions) {
+        eprintln!("bench: this build has the checks of a debug build, which cost time: run it with --release");
+        return ExitCode::FAILURE;
+    }
     println!(
         "seed {seed}, {ROUNDS} rounds; ratio of times, proved reader to second reader: median (least to greatest)"
     );
     for (name, commands) in bench::mixes(seed) {
-        let verdicts = rounds(&commands, ours(), |octets| {
-            black_box(second_reader::verdict(octets));
-        });
-        let mut record = second_reader::Record::default();
-        let into = rounds(&commands, ours(), |octets| {
-            black_box(second_reader::read_into(octets, &mut record));
-        });
-        let fresh = rounds(&commands, ours(), |octets| {
-            black_box(second_reader::read(octets));
-        });
-        let read = rounds(
-            &commands,
-            |octets| {
-                let _ = black_box(talazumir::read(octets));
-            },
-            |octets| {
-                black_box(second_reader::read(octets));
-            },
-        );
         println!("{name}:");
-        println!("  verdict against verdict alone          {}", summary(verdicts));
-        println!("  verdict against a record, room reused  {}", summary(into));
-        println!("  verdict against a record, new vector   {}", summary(fresh));
-        println!("  record against a record, new vector    {}", summary(read));
+        measure(&commands);
     }
+    ExitCode::SUCCESS
 }
 
-/// The proved reader, with one log for all commands.
-fn ours() -> impl FnMut(&[u8]) {
+/// Measures and prints the four ratios of a mix. The proved reader's verdicts have one log for all commands.
+fn measure(commands: &[Vec<u8>]) {
     let mut reader = talazumir::Reader::new();
-    move |octets| {
-        black_box(reader.verdict(octets));
-    }
+    let mut record = second_reader::Record::default();
+    let alone = rounds(commands, |octets| reader.verdict(octets), second_reader::verdict);
+    println!("  verdict against verdict alone          {}", summary(alone));
+    let reused =
+        rounds(commands, |octets| reader.verdict(octets), |octets| second_reader::read_into(octets, &mut record));
+    println!("  verdict against a record, room reused  {}", summary(reused));
+    let new = rounds(commands, |octets| reader.verdict(octets), second_reader::read);
+    println!("  verdict against a record, new vector   {}", summary(new));
+    let records = rounds(commands, talazumir::read, second_reader::read);
+    println!("  record against a record, new vector    {}", summary(records));
 }
 
 /// The ratio of each round.
-fn rounds(commands: &[Vec<u8>], mut ours: impl FnMut(&[u8]), mut theirs: impl FnMut(&[u8])) -> Vec<f64> {
+fn rounds<A, B>(
+    commands: &[Vec<u8>],
+    mut ours: impl FnMut(&[u8]) -> A,
+    mut theirs: impl FnMut(&[u8]) -> B,
+) -> Vec<f64> {
     let octets: usize = commands.iter().map(Vec::len).sum();
     let times = OCTETS.div_ceil(octets);
     let mut ratios = Vec::new();
@@ -67,11 +71,11 @@ fn rounds(commands: &[Vec<u8>], mut ours: impl FnMut(&[u8]), mut theirs: impl Fn
     ratios
 }
 
-fn time(commands: &[Vec<u8>], times: usize, read: &mut impl FnMut(&[u8])) -> Duration {
+fn time<A>(commands: &[Vec<u8>], times: usize, read: &mut impl FnMut(&[u8]) -> A) -> Duration {
     let start = Instant::now();
     for _ in 0..times {
         for octets in commands {
-            read(black_box(octets));
+            black_box(read(black_box(octets)));
         }
     }
     start.elapsed()

@@ -1,37 +1,59 @@
-//! One reading many times, for callgrind: `instructions proved|second|record FILE TIMES`. `instructions write DIR`
-//! writes the bench's commands there, one to a file.
+//! One reading many times, for callgrind: `instructions READING COMMAND TIMES`. The command is S, L or a file with its
+//! octets. `instructions write DIR` writes the bench's own commands there, one to a file.
 
 use std::hint::black_box;
+use std::process::ExitCode;
 
-fn main() {
+const USAGE: &str = "usage: instructions proved-verdict|proved-record|second-verdict|second-record S|L|FILE TIMES, \
+                     or instructions write DIR";
+
+fn main() -> ExitCode {
     let words: Vec<String> = std::env::args().skip(1).collect();
     let words: Vec<&str> = words.iter().map(String::as_str).collect();
-    match words[..] {
+    let done = match words[..] {
         ["write", folder] => write(folder),
-        [reader, file, times] => {
-            repeat(reader, &std::fs::read(file).expect("a file"), times.parse().expect("a number"))
+        [reading, command, times] => repeat(reading, command, times),
+        _ => Err(USAGE.to_string()),
+    };
+    match done {
+        Ok(()) => ExitCode::SUCCESS,
+        Err(words) => {
+            eprintln!("{words}");
+            ExitCode::from(2)
         }
-        _ => panic!("instructions proved|second|record FILE TIMES, or instructions write DIR"),
     }
 }
 
-fn write(folder: &str) {
+fn write(folder: &str) -> Result<(), String> {
     for (name, commands) in bench::mixes(bench::SEED) {
         for (i, octets) in commands.iter().enumerate() {
             let file = format!("{folder}/{}-{i:02}", name.replace([' ', ','], "-"));
-            std::fs::write(file, octets).expect("a folder to write into");
+            std::fs::write(&file, octets).map_err(|error| format!("{file}: {error}"))?;
         }
     }
+    Ok(())
 }
 
-fn repeat(reader: &str, octets: &[u8], times: usize) {
-    let mut proved = talazumir::Reader::new();
+fn repeat(reading: &str, command: &str, times: &str) -> Result<(), String> {
+    let times: usize = times.parse().map_err(|_| USAGE.to_string())?;
+    let octets = match command {
+        "S" => commands::S.to_vec(),
+        "L" => commands::L.to_vec(),
+        file => std::fs::read(file).map_err(|error| format!("{file}: {error}"))?,
+    };
+    let mut reader = talazumir::Reader::new();
+    match reading {
+        "proved-verdict" => each(times, &octets, |octets| reader.verdict(octets)),
+        "proved-record" => each(times, &octets, talazumir::read),
+        "second-verdict" => each(times, &octets, second_reader::verdict),
+        "second-record" => each(times, &octets, second_reader::read),
+        _ => return Err(USAGE.to_string()),
+    }
+    Ok(())
+}
+
+fn each<A>(times: usize, octets: &[u8], mut read: impl FnMut(&[u8]) -> A) {
     for _ in 0..times {
-        match reader {
-            "proved" => drop(black_box(proved.verdict(black_box(octets)))),
-            "second" => drop(black_box(second_reader::verdict(black_box(octets)))),
-            "record" => drop(black_box(second_reader::read(black_box(octets)))),
-            _ => panic!("proved, second or record"),
-        }
+        black_box(read(black_box(octets)));
     }
 }
