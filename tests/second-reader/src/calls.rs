@@ -22,6 +22,9 @@ pub struct Call {
     pub lent: Lent,
 }
 
+/// Any writer. A trial of one is compiled once for all of them, which are many in the tests.
+pub type Writer<'a> = dyn FnMut(&Draft, &[u8], &mut [u8]) -> Written + 'a;
+
 /// What a list of calls leaves.
 #[derive(Clone, Debug, Default, PartialEq, Eq)]
 pub struct Outcome {
@@ -35,7 +38,7 @@ pub struct Outcome {
 
 /// Makes the calls with this writer. Each gets the part of the output behind what was written so
 /// far; a refused one leaves that part to the next.
-pub fn run(calls: &[Call], output: &mut [u8], mut write: impl FnMut(&Draft, &[u8], &mut [u8]) -> Written) -> Outcome {
+pub fn run(calls: &[Call], output: &mut [u8], write: &mut Writer) -> Outcome {
     let mut outcome = Outcome::default();
     for call in calls {
         let (done, part) = output.split_at_mut(outcome.written);

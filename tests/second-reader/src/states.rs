@@ -13,9 +13,12 @@ use crate::state_coverage::StateCoverage;
 use crate::writer::Written;
 use std::process::ExitCode;
 
+/// Any canonical form. A trial of one is compiled once for all of them.
+pub type Form<'a> = dyn FnMut(&[u8], &mut [u8]) -> Written + 'a;
+
 /// Tries a canonical form as the arguments SEED COMMANDS PAIRS say, and prints what was reached. It
 /// fails at the first difference, and where a cell of the table is empty.
-pub fn main(form: impl FnMut(&[u8], &mut [u8]) -> Written) -> ExitCode {
+pub fn main(form: &mut Form) -> ExitCode {
     let Some([seed, commands, pairs]) = numbers() else {
         eprintln!("arguments: SEED COMMANDS PAIRS");
         return ExitCode::from(2);
@@ -25,18 +28,13 @@ pub fn main(form: impl FnMut(&[u8], &mut [u8]) -> Written) -> ExitCode {
 
 /// Tries a canonical form on this many commands and pairs; the first difference or broken property
 /// is the error, with the command.
-pub fn trial(
-    seed: u64,
-    commands: u64,
-    pairs: u64,
-    mut form: impl FnMut(&[u8], &mut [u8]) -> Written,
-) -> Result<StateCoverage, String> {
+pub fn trial(seed: u64, commands: u64, pairs: u64, form: &mut Form) -> Result<StateCoverage, String> {
     let mut prng = Prng::new(seed);
     let mut coverage = StateCoverage::default();
     for ordinal in 1..=commands {
         let octets = any_command(&mut prng);
         let before = output(octets.len(), &mut prng);
-        let answer = one(&octets, &before, &mut form).map_err(|words| {
+        let answer = one(&octets, &before, form).map_err(|words| {
             let (room, hex) = (before.len(), hex(&octets));
             format!("seed {seed}, command {ordinal}, room {room}: {words}\n{hex}")
         })?;
@@ -44,7 +42,7 @@ pub fn trial(
     }
     for ordinal in 1..=pairs {
         let twins = twins(&mut prng);
-        both(&twins, &mut form).map_err(|words| {
+        both(&twins, form).map_err(|words| {
             let [a, b] = twins.commands.each_ref().map(|octets| hex(octets));
             format!("seed {seed}, pair {ordinal}, {:?}: {words}\n{a}\n{b}", twins.change)
         })?;
@@ -64,7 +62,7 @@ fn any_command(prng: &mut Prng) -> Vec<u8> {
 }
 
 /// One command by both.
-fn one(octets: &[u8], before: &[u8], form: &mut impl FnMut(&[u8], &mut [u8]) -> Written) -> Result<Written, String> {
+fn one(octets: &[u8], before: &[u8], form: &mut Form) -> Result<Written, String> {
     let (mut ours, mut expected) = (before.to_vec(), before.to_vec());
     let answer = form(octets, &mut ours);
     let second = canonical(octets, &mut expected);
@@ -86,7 +84,7 @@ fn one(octets: &[u8], before: &[u8], form: &mut impl FnMut(&[u8], &mut [u8]) -> 
 }
 
 /// Two commands: the forms are the same exactly if the commands agree, and as the change says.
-fn both(twins: &Twins, form: &mut impl FnMut(&[u8], &mut [u8]) -> Written) -> Result<(), String> {
+fn both(twins: &Twins, form: &mut Form) -> Result<(), String> {
     let [a, b] = &twins.commands;
     let same = exact(a, form) == exact(b, form);
     if same != agree(a, b) {
@@ -99,7 +97,7 @@ fn both(twins: &Twins, form: &mut impl FnMut(&[u8], &mut [u8]) -> Written) -> Re
 }
 
 /// What is written in a room as long as the command.
-fn exact(octets: &[u8], form: &mut impl FnMut(&[u8], &mut [u8]) -> Written) -> Vec<u8> {
+fn exact(octets: &[u8], form: &mut Form) -> Vec<u8> {
     let mut output = vec![0; octets.len()];
     let length = form(octets, &mut output).length;
     output.truncate(length as usize);

@@ -1,9 +1,8 @@
 //! Holds a writer to the second writer on generated drafts and pairs of lists: answer and whole
 //! output of each call, and the properties of calls and pairs.
 
-use crate::calls::{run, Outcome};
+use crate::calls::{run, Outcome, Writer};
 use crate::command_line::{conclude, numbers};
-use crate::draft::Draft;
 use crate::generate::drafts::{case, Case};
 use crate::generate::lists::{pair, Change, Pair};
 use crate::generate::Prng;
@@ -17,7 +16,7 @@ use std::process::ExitCode;
 
 /// Tries a writer as the arguments SEED DRAFTS PAIRS say, and prints what was reached. It fails at
 /// the first difference, and where a cell of the table is empty.
-pub fn main(writer: impl FnMut(&Draft, &[u8], &mut [u8]) -> Written) -> ExitCode {
+pub fn main(writer: &mut Writer) -> ExitCode {
     let Some([seed, drafts, pairs]) = numbers() else {
         eprintln!("arguments: SEED DRAFTS PAIRS");
         return ExitCode::from(2);
@@ -76,21 +75,16 @@ impl Display for Report {
 
 /// Tries a writer on this many drafts and pairs; the first difference or broken property is the
 /// error, with the draft made small.
-pub fn trial(
-    seed: u64,
-    drafts: u64,
-    pairs: u64,
-    mut writer: impl FnMut(&Draft, &[u8], &mut [u8]) -> Written,
-) -> Result<Report, String> {
+pub fn trial(seed: u64, drafts: u64, pairs: u64, writer: &mut Writer) -> Result<Report, String> {
     let mut prng = Prng::new(seed);
     let mut report = Report::default();
     for ordinal in 1..=drafts {
         let case = case(&mut prng);
-        match one(&case, &mut writer) {
+        match one(&case, writer) {
             Ok(answer) => report.calls.note(&case, &answer),
             Err(words) => {
-                let small = shrink(case, |case| one(case, &mut writer).is_err());
-                let found = one(&small, &mut writer).err().unwrap_or_default();
+                let small = shrink(case, |case| one(case, writer).is_err());
+                let found = one(&small, writer).err().unwrap_or_default();
                 let shown = Shown(&small);
                 return Err(format!("seed {seed}, draft {ordinal}: {words}\nmade small: {found}\n{shown}"));
             }
@@ -98,7 +92,7 @@ pub fn trial(
     }
     for ordinal in 1..=pairs {
         let pair = pair(&mut prng);
-        let outcomes = both(&pair, &mut writer).map_err(|words| format!("seed {seed}, pair {ordinal}: {words}"))?;
+        let outcomes = both(&pair, writer).map_err(|words| format!("seed {seed}, pair {ordinal}: {words}"))?;
         let same = outcomes[0].meanings == outcomes[1].meanings;
         *report.pairs.entry((pair.change, pair.room, same)).or_default() += 1;
         for answer in outcomes.iter().flat_map(|outcome| &outcome.answers) {
@@ -109,7 +103,7 @@ pub fn trial(
 }
 
 /// One draft by both writers.
-fn one(case: &Case, writer: &mut impl FnMut(&Draft, &[u8], &mut [u8]) -> Written) -> Result<Written, String> {
+fn one(case: &Case, writer: &mut Writer) -> Result<Written, String> {
     let (draft, octets) = (&case.draft, &case.octets);
     let (mut ours, mut expected) = (case.output.clone(), case.output.clone());
     let answer = writer(draft, octets, &mut ours);
@@ -128,13 +122,13 @@ fn one(case: &Case, writer: &mut impl FnMut(&Draft, &[u8], &mut [u8]) -> Written
 }
 
 /// One pair of lists by both writers.
-fn both(pair: &Pair, writer: &mut impl FnMut(&Draft, &[u8], &mut [u8]) -> Written) -> Result<[Outcome; 2], String> {
+fn both(pair: &Pair, writer: &mut Writer) -> Result<[Outcome; 2], String> {
     let mut ours = pair.outputs.clone();
     let mut expected = pair.outputs.clone();
     let [a, b] = &mut ours;
-    let outcomes = [run(&pair.lists[0], a, &mut *writer), run(&pair.lists[1], b, &mut *writer)];
+    let outcomes = [run(&pair.lists[0], a, writer), run(&pair.lists[1], b, writer)];
     let [c, d] = &mut expected;
-    let second = [run(&pair.lists[0], c, write), run(&pair.lists[1], d, write)];
+    let second = [run(&pair.lists[0], c, &mut write), run(&pair.lists[1], d, &mut write)];
     if outcomes != second {
         let answers = |o: &[Outcome; 2]| o.each_ref().map(|outcome| outcome.answers.clone());
         let (ours, second) = (answers(&outcomes), answers(&second));

@@ -8,18 +8,18 @@ const SEED: u64 = 20_261_115;
 
 #[test]
 fn the_second_form_passes() {
-    let coverage = trial(SEED, 60_000, 3_000, canonical).unwrap_or_else(|words| panic!("{words}"));
+    let coverage = trial(SEED, 60_000, 3_000, &mut canonical).unwrap_or_else(|words| panic!("{words}"));
     assert_eq!(coverage.gaps(), Vec::<String>::new());
 }
 
 /// Expects the trial to find this form wrong.
-fn found(name: &str, form: impl FnMut(&[u8], &mut [u8]) -> Written) {
-    assert!(trial(SEED, 60_000, 0, form).is_err(), "{name}: not found");
+fn found(name: &str, mut form: impl FnMut(&[u8], &mut [u8]) -> Written) {
+    assert!(trial(SEED, 60_000, 0, &mut form).is_err(), "{name}: not found");
 }
 
 /// Expects the trial to find this form wrong by pairs of commands alone.
-fn found_by_pairs(name: &str, form: impl FnMut(&[u8], &mut [u8]) -> Written) {
-    assert!(trial(SEED, 0, 3_000, form).is_err(), "{name}: not found");
+fn found_by_pairs(name: &str, mut form: impl FnMut(&[u8], &mut [u8]) -> Written) {
+    assert!(trial(SEED, 0, 3_000, &mut form).is_err(), "{name}: not found");
 }
 
 fn no_room() -> Written {

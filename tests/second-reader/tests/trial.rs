@@ -8,7 +8,7 @@ const SEED: u64 = 20_261_115;
 
 #[test]
 fn the_second_writer_passes() {
-    let report = trial(SEED, 60_000, 6_000, write).unwrap_or_else(|words| panic!("{words}"));
+    let report = trial(SEED, 60_000, 6_000, &mut write).unwrap_or_else(|words| panic!("{words}"));
     assert_eq!(report.gaps(), Vec::<String>::new());
 }
 
@@ -17,8 +17,8 @@ fn refusal(number: u32) -> Written {
 }
 
 /// Expects the trial to find this writer wrong, and to show a small draft.
-fn found(name: &str, writer: impl FnMut(&Draft, &[u8], &mut [u8]) -> Written) {
-    let words = trial(SEED, 60_000, 0, writer).err();
+fn found(name: &str, mut writer: impl FnMut(&Draft, &[u8], &mut [u8]) -> Written) {
+    let words = trial(SEED, 60_000, 0, &mut writer).err();
     let words = words.unwrap_or_else(|| panic!("{name}: not found"));
     assert!(words.lines().count() < 30, "{name}: {words}");
 }

@@ -9,7 +9,7 @@ use second_reader::{states, Verdict, Written};
 use std::process::ExitCode;
 
 fn main() -> ExitCode {
-    states::main(canonical)
+    states::main(&mut canonical)
 }
 
 /// The proved canonical form.

@@ -10,7 +10,7 @@ use std::process::ExitCode;
 use talazumir::Record;
 
 fn main() -> ExitCode {
-    trial::main(write)
+    trial::main(&mut write)
 }
 
 /// The proved writer.

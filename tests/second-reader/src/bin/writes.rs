@@ -6,5 +6,5 @@
 use std::process::ExitCode;
 
 fn main() -> ExitCode {
-    second_reader::trial::main(second_reader::write)
+    second_reader::trial::main(&mut second_reader::write)
 }
