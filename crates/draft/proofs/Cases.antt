@@ -10,11 +10,11 @@ use Rattle.rules.specs.declared.Avp.{Avp}
 use Rattle.rules.specs.Avp.{headerOf}
 use Rattle.rules.specs.Dictionary.{dictionary}
 use Rattle.rules.specs.Walk.{deepest}
-use Rattle.rules.specs.Draft.{isPlaced, membersSize}
+use Rattle.rules.specs.Draft.{isPlaced, nextDepth, membersSize}
 use Rattle.rules.specs.Meaning.{Cell}
 use Rattle.rules.proofs.Tests.{and-true}
 use Rattle.rules.proofs.Walk.{by-cases}
-use Rattle.draft.specs.Drafts.{isGroupAvp, hasSize}
+use Rattle.draft.specs.Drafts.{draftCell, isGroupAvp, hasSize}
 
 module _ (size : ℕ) (a : Avp) where
   pub placed-group : isGroupAvp a ≡ true → true ≡ isPlaced dictionary size a
@@ -31,6 +31,14 @@ header-most vendor = by-cases (eqb vendor 0) (λ h. rw h (lit≤ tt)) (λ h. rw 
 pub in-tree-most : (depth most : ℕ) → (leb 1 depth && leb depth most && leb depth deepest) ≡ true → depth ≤ deepest
 in-tree-most depth most e =
     leb-true depth deepest (and-true (leb 1 depth && leb depth most) (leb depth deepest) e .1)
+
+-- the depth that may follow
+module _ (s : List ℕ) (a : Avp) where
+  pub next-group : isGroupAvp a ≡ true → a .depth + 1 ≡ nextDepth dictionary (draftCell s a)
+  next-group g = rw g
+
+  pub next-part : isGroupAvp a ≡ false → a .depth ≡ nextDepth dictionary (draftCell s a)
+  next-part g = rw g
 
 -- a read group's length
 module _ (a : Avp) (cs : List Cell) where

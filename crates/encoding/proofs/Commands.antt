@@ -10,7 +10,8 @@ use Rattle.rules.specs.Meaning.{Meaning}
 use Rattle.rules.specs.Wire.{flagsOctet, commandHeader, commandOctets}
 use Rattle.rules.specs.Draft.{draftOf, draftMeaning}
 use Rattle.octets.proofs.Puts.{sets-append}
-use Rattle.numbers.specs.Numbers.{numberedRecord}
+use Rattle.numbers.specs.declared.Head.{Head}
+use Rattle.numbers.specs.Numbers.{numberedRecord, numberedHead}
 use Rattle.encoding.specs.Promise.{numberedList, numberedCommand, IsStart, identified}
 
 -- seven parts, each where the ones before it end
@@ -24,6 +25,14 @@ header-parts out m n = refl
 length-command-header : (m : Meaning) (n : ℕ) → length (commandHeader m n) ≡ headerSize
 unfolding commandHeader octets
 length-command-header m n = refl
+
+-- application and identifiers, one after the other
+pub identifiers-put : (before numbers : List ℕ) (head : Head) → head ≡ numberedHead numbers
+    → (first : List ℕ) → first ≡ sets before 8 (octets 4 applicationNt)
+    → (second : List ℕ) → second ≡ sets first 12 (octets 4 (head .«hop_by_hop»))
+    → (third : List ℕ) → third ≡ sets second 16 (octets 4 (head .«end_to_end»))
+    → third ≡ identified before (numberedRecord numbers)
+identifiers-put before numbers head h first a second b third c = rw (c, b, a, h)
 
 pub command-put : (numbers s out : List ℕ) (size : ℕ) → size ≡ headerSize + length (numberedList numbers s)
     → (first : List ℕ) → IsStart out numbers size first

@@ -1,6 +1,6 @@
 -- Laws of a log: what a position holds, the AVPs one by one, and that AVPs that were put in are read back.
 use mathlib.Core.Path.{_≡_, refl, sym, ap, _∙_}
-use mathlib.Core.Bool.{Bool, true, false}
+use mathlib.Core.Bool.{Bool, true, false, _&&_}
 use mathlib.Core.List.{List, [], _∷_, _++_, append-assoc}
 use Prim.Native.Nat.{ℕ, zero, suc, _+_, _-_, _*_, _^_, _≤_, _<_, min}
 use native.Mathlib.Nat.{add-zero}
@@ -11,7 +11,7 @@ use lib.Dec.{eqb}
 use lib.ListN.{length, getD, set, take, drop, length-set, drop-of-length-le}
 use lib.Seq.{sets, sets-eq, getD-append-add, getD-set-other, getD-drop, length-take-le}
 use Rattle.rules.specs.declared.Avp.{Avp}
-use Rattle.rules.specs.Avp.{endOf}
+use Rattle.rules.specs.Avp.{named, endOf}
 use Rattle.rules.specs.Search.{blank, avpIn}
 use Rattle.log.specs.Log.{bit, numbersAt, putAvp, avpFrom, avpOf, avpsFrom, avpsIn, putAvps}
 
@@ -23,6 +23,28 @@ module _ (log : List ℕ) (i : ℕ) where
   pub avpOf-in : i < 256 → avpOf log i ≡ avpFrom log (i * 7)
   unfolding avpOf
   avpOf-in h = rw (lt-ltb i 256 h)
+
+  -- as the code reads them: an AVP number by number, and its depth and its name alone
+  pub avpOf-by : i < 256 → (length : ℕ) → length ≡ getD log (i * 7 + 6) 0 - getD log (i * 7 + 5) 0
+      → _≡_ {A = Avp}
+      record {
+        depth = getD log (i * 7) 0;
+        vendor = getD log (i * 7 + 1) 0;
+        code = getD log (i * 7 + 2) 0;
+        m = eqb (getD log (i * 7 + 3) 0) 1;
+        p = eqb (getD log (i * 7 + 4) 0) 1;
+        start = getD log (i * 7 + 5) 0;
+        length = length;
+      }
+      (avpOf log i)
+  avpOf-by h length e = rw e (sym (avpOf-in h))
+
+  pub depth-in : i < 256 → getD log (i * 7) 0 ≡ avpOf log i .depth
+  depth-in h = rw (avpOf-in h)
+
+  pub named-in : i < 256 → (vendor code : ℕ) (r : Bool)
+      → r ≡ (eqb (getD log (i * 7 + 1) 0) vendor && eqb (getD log (i * 7 + 2) 0) code) → r ≡ named (avpOf log i) vendor code
+  named-in h vendor code r e = e ∙ rw (avpOf-in h)
 
   -- the end of the data
   pub data-end-out : 256 ≤ i → endOf (avpOf log i) ≡ 0
@@ -46,6 +68,13 @@ module _ (log : List ℕ) (i : ℕ) where
     pub putAvp-in : i < 256 → endOf a < 2 ^ 32 → putAvp log i a ≡ numbersAt log (i * 7) a
     unfolding putAvp
     putAvp-in h k = rw (lt-ltb i 256 h, lt-ltb (endOf a) (2 ^ 32) k)
+
+    -- as the code puts it: number by number, with M and P found first
+    pub putAvp-by : i < 256 → endOf a < 2 ^ 32 → (m : ℕ) → m ≡ bit (a .m) → (p : ℕ) → p ≡ bit (a .p)
+        → set (set (set (set (set (set (set log (i * 7) (a .depth)) (i * 7 + 1) (a .vendor)) (i * 7 + 2) (a .code))
+        (i * 7 + 3) m) (i * 7 + 4) p) (i * 7 + 5) (a .start)) (i * 7 + 6) (endOf a)
+        ≡ putAvp log i a
+    putAvp-by h k m e p f = rw (e, f) (sym (putAvp-in h k))
 
 -- ---- the AVPs one by one
 

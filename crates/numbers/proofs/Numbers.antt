@@ -55,7 +55,7 @@ module _ (r : Record) (full : length (r .avps) ≡ mostAvps) where
       sym (sets-append l 0 (headNumbers r) (avpsNumbers (r .avps)))
       ∙ sets-whole l (headNumbers r ++ avpsNumbers (r .avps)) (omega (arith, many))
 
-  pub rest-next : (l : List ℕ) (i : ℕ) → i < mostAvps
+  rest-next : (l : List ℕ) (i : ℕ) → i < mostAvps
       → rest l i ≡ rest (sets l (numberedPlace i) (avpNumbers (avpIn (r .avps) i))) (i + 1)
   unfolding avpsNumbers
   rest-next l i h =
@@ -65,6 +65,11 @@ module _ (r : Record) (full : length (r .avps) ≡ mostAvps) where
       ∙ sets-append l (numberedPlace i) (avpNumbers a) (avpsNumbers (drop (suc i) (r .avps)))
       ∙ ap (λ (n : ℕ). sets (sets l (numberedPlace i) (avpNumbers a)) n (avpsNumbers (drop (suc i) (r .avps)))) e
       ∙ ap (λ (n : ℕ). sets (sets l (numberedPlace i) (avpNumbers a)) (numberedPlace (i + 1)) (avpsNumbers (drop n (r .avps)))) (sym (add-one i))
+
+  -- as the code puts them: the numbers after those of the position
+  pub rest-put : (l : List ℕ) (i : ℕ) → i < mostAvps
+      → (after : List ℕ) → after ≡ sets l (numberedPlace i) (avpNumbers (avpIn (r .avps) i)) → rest after (i + 1) ≡ rest l i
+  rest-put l i h after e = ap (λ (n : List ℕ). rest n (i + 1)) e ∙ sym (rest-next l i h)
 
   pub rest-none : (l : List ℕ) (i : ℕ) → mostAvps ≤ i → rest l i ≡ l
   unfolding avpsNumbers

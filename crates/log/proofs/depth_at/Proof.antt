@@ -1,6 +1,6 @@
 -- `log::depth_at` meets its contract.
 use borrow.Author.Needs.{needs}
-use Rattle.log.proofs.Log.{avpOf-out, avpOf-in}
+use Rattle.log.proofs.Log.{avpOf-out, depth-in}
 use Rattle.log.proofs.depth_at.Statement.{statement}
 use Rattle.log.proofs.depth_at.Tie as tie
 
@@ -19,7 +19,7 @@ element-copy-out-result c = search needs
 returns-2 : tie.Need-returns-2
 returns-2 c =
     let s = c .before in
-    rw (avpOf-in (s .before .args .log .now) (s .before .args .position) (s .if1 .left))
+    depth-in (s .before .args .log .now) (s .before .args .position) (s .if1 .left)
 
 pub depth-at-spec : {M : Type 1} → statement M
 depth-at-spec =

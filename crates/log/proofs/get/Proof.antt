@@ -1,7 +1,7 @@
 -- `log::get` meets its contract.
 use borrow.Author.Needs.{needs}
 use mathlib.Core.Path.{sym, _∙_}
-use Rattle.log.proofs.Log.{avpOf-out, avpOf-in}
+use Rattle.log.proofs.Log.{avpOf-out, avpOf-by}
 use Rattle.log.proofs.get.Statement.{statement}
 use Rattle.log.proofs.get.Tie as tie
 
@@ -91,7 +91,7 @@ length-of-requires c κs = search needs
 returns-2 : tie.Need-returns-2
 returns-2 c =
     let s = c .before .before .before .before .before .before .before .before .before in
-    rw (c .length-of .ensures) (sym (avpOf-in (s .before .args .log .now) (s .before .args .position) (s .if1 .left)))
+    avpOf-by (s .before .args .log .now) (s .before .args .position) (s .if1 .left) _ (c .length-of .ensures)
 
 pub get-spec : {M : Type 1} → statement M
 get-spec =

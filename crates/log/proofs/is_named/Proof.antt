@@ -1,7 +1,7 @@
 -- `log::is_named` meets its contract.
 use borrow.Author.Needs.{needs}
 use mathlib.Core.Path.{_∙_}
-use Rattle.log.proofs.Log.{avpOf-out, avpOf-in}
+use Rattle.log.proofs.Log.{avpOf-out, named-in}
 use Rattle.log.proofs.is_named.Statement.{statement}
 use Rattle.log.proofs.is_named.Tie as tie
 
@@ -44,7 +44,8 @@ is-same-name-requires c κs = search needs
 returns-2 : tie.Need-returns-2
 returns-2 c =
     let s = c .before .before .before in
-    c .is-same-name .ensures ∙ rw (avpOf-in (s .before .args .log .now) (s .before .args .position) (s .if1 .left))
+    let a = s .before .args in
+    named-in (a .log .now) (a .position) (s .if1 .left) (a .vendor) (a .code) _ (c .is-same-name .ensures)
 
 pub is-named-spec : {M : Type 1} → statement M
 is-named-spec =

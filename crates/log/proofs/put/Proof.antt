@@ -2,7 +2,7 @@
 use mathlib.Core.Path.{sym}
 use borrow.Author.Needs.{needs}
 use native.Mathlib.Omega.{arith}
-use Rattle.log.proofs.Log.{putAvp-out, putAvp-long, putAvp-in}
+use Rattle.log.proofs.Log.{putAvp-out, putAvp-long, putAvp-by}
 use Rattle.log.proofs.put.Statement.{statement}
 use Rattle.log.proofs.put.Tie as tie
 
@@ -98,8 +98,8 @@ returns-3 c =
     let e = b .before .before in
     let s = e .before .before .before in
     let a = s .before .args in
-    rw (b .bit-of2 .ensures, b .before .bit-of .ensures)
-    (sym (putAvp-in (a .log .now) (a .position) (a .a) (s .if1 .left) (omega (arith, e))))
+    putAvp-by (a .log .now) (a .position) (a .a) (s .if1 .left) (omega (arith, e)) _ (b .before .bit-of .ensures) _
+    (b .bit-of2 .ensures)
 
 pub put-spec : {M : Type 1} → statement M
 put-spec =

@@ -54,7 +54,7 @@ returns-3 : tie.Need-returns-3
 unfolding dataStart dataLength dataAt
 returns-3 c =
     let a = c .before .before .before .before .before .before .before .args in
-    rw (lies-outside (a .t1) (a .position) (length (a .s .now)) (omega arith) (c .if3 .taken)) (refl, (omega arith, refl))
+    rw (lies-outside (a .t1) (a .position) (length (a .s .now)) (omega arith) (omega arith)) (refl, (omega arith, refl))
 
 sub-result : tie.Need-sub-result
 sub-result c = search needs

@@ -1,7 +1,7 @@
 -- `numbers::flags_fit` meets its contract. What is left to test at i is the whole test of the positions.
 use borrow.Author.Needs.{needs}
 use mathlib.Core.Path.{_≡_, sym, _∙_}
-use Prim.Native.Nat.{_≤_, _-_}
+use Prim.Native.Nat.{_≤_, _<_, _-_}
 use native.Mathlib.Omega.{arith}
 use borrow.Author.Tests.{not-true, not-false}
 use Rattle.rules.specs.Walk.{mostAvps}
@@ -42,8 +42,8 @@ returns-2 c =
     let at-loop = at-loop-test .before in
     let start = at-loop .before .before .before in
     let here = sym (at-avp-flags-fit .avp-flags-fit .ensures) ∙ not-true _ (c .if2 .taken) in
-    sym (fit-stop (start .args .numbers .now) (at-loop .loop .position) (at-loop-test .loop-test .taken) here) ∙ at-loop
-    .loop .inv .1
+    let bound : at-loop .loop .position < mostAvps = omega (arith, at-loop-test .loop-test .taken) in
+    sym (fit-stop (start .args .numbers .now) (at-loop .loop .position) bound here) ∙ at-loop .loop .inv .1
 
 add-position : tie.Need-add-position Inv-loop μ-loop
 add-position c = search needs
@@ -58,13 +58,15 @@ loop-again c =
     let at-loop = at-loop-test .before in
     let start = at-loop .before .before .before in
     let here = sym (at-avp-flags-fit .avp-flags-fit .ensures) ∙ not-false _ (c .if2 .left) in
-    (omega arith, sym (fit-on (start .args .numbers .now) (at-loop .loop .position) (at-loop-test .loop-test .taken) here) ∙ at-loop .loop .inv .1)
+    let bound : at-loop .loop .position < mostAvps = omega (arith, at-loop-test .loop-test .taken) in
+    (omega arith, sym (fit-on (start .args .numbers .now) (at-loop .loop .position) bound here) ∙ at-loop .loop .inv .1)
 
 returns-3 : tie.Need-returns-3 Inv-loop μ-loop
 returns-3 c =
     let at-loop = c .before in
     let start = at-loop .before .before .before in
-    sym (fit-end (start .args .numbers .now) (at-loop .loop .position) (c .loop-test .left)) ∙ at-loop .loop .inv .1
+    let bound : mostAvps ≤ at-loop .loop .position = omega (arith, c .loop-test .left) in
+    sym (fit-end (start .args .numbers .now) (at-loop .loop .position) bound) ∙ at-loop .loop .inv .1
 
 pub flags-fit-spec : {M : Type 1} → statement M
 flags-fit-spec =

@@ -2,13 +2,13 @@
 use borrow.Author.Needs.{needs}
 use mathlib.Core.Path.{_≡_, sym, ap, _∙_}
 use mathlib.Core.List.{List}
-use Prim.Native.Nat.{ℕ, _≤_, _+_, _-_}
+use Prim.Native.Nat.{ℕ, _≤_, _-_}
 use native.Mathlib.Omega.{arith}
 use lib.ListN.{length}
 use Rattle.rules.specs.Walk.{mostAvps}
 use Rattle.lookup.proofs.Positions.{length-mapped}
 use Rattle.numbers.specs.Numbers.{numbersOf}
-use Rattle.numbers.proofs.Numbers.{rest, rest-all, rest-next, rest-none}
+use Rattle.numbers.proofs.Numbers.{rest, rest-all, rest-put, rest-none}
 use Rattle.numbers.proofs.put.Statement.{statement}
 use Rattle.numbers.proofs.put.Tie as tie
 
@@ -56,10 +56,7 @@ loop-again c =
     let st = c .before .before .before .before .before .before .before .before .before in
     let r = st .args .t2 in (
       omega arith,
-      λ f.
-          ap (λ (n : List ℕ). rest r f n (l .i + 1)) (c .put-avp .ensures)
-          ∙ sym (rest-next r f (l .numbers) (l .i) (omega arith))
-          ∙ l .inv .1 f,
+      λ f. rest-put r f (l .numbers) (l .i) (omega arith) _ (c .put-avp .ensures) ∙ l .inv .1 f,
     )
 
 returns : tie.Need-returns Inv-loop μ-loop

@@ -1,5 +1,7 @@
 -- `numbers::put_head` meets its contract.
 use borrow.Author.Needs.{needs}
+use mathlib.Core.Path.{_≡_}
+use Rattle.log.specs.Log.{bit}
 use Rattle.numbers.proofs.put_head.Statement.{statement}
 use Rattle.numbers.proofs.put_head.Tie as tie
 
@@ -40,7 +42,13 @@ returns : tie.Need-returns
 returns c =
     let e3 = c .before in
     let e2 = e3 .before in
-    rw (e2 .before .bit-of .ensures, e2 .bit-of2 .ensures, e3 .bit-of3 .ensures, c .bit-of4 .ensures)
+    let e1 = e2 .before in
+    let x = e1 .before .args .«record» in
+    let r : e1 .bit-of .result ≡ bit (x .r) = e1 .bit-of .ensures in
+    let p : e2 .bit-of2 .result ≡ bit (x .p) = e2 .bit-of2 .ensures in
+    let e : e3 .bit-of3 .result ≡ bit (x .e) = e3 .bit-of3 .ensures in
+    let t : c .bit-of4 .result ≡ bit (x .t) = c .bit-of4 .ensures in
+    rw (r, p, e, t)
 
 pub put-head-spec : {M : Type 1} → statement M
 put-head-spec =

@@ -1,6 +1,6 @@
 -- `numbers::used` meets its contract.
 use borrow.Author.Needs.{needs}
-use mathlib.Core.Path.{ap, _∙_}
+use mathlib.Core.Path.{_≡_, ap, _∙_}
 use Prim.Native.Nat.{ℕ, min}
 use Rattle.rules.specs.Walk.{mostAvps}
 use Rattle.numbers.proofs.used.Statement.{statement}
@@ -13,7 +13,9 @@ used-requires : tie.Need-used-requires
 used-requires c κs = search needs
 
 returns : tie.Need-returns
-returns c = c .used .ensures ∙ ap (λ (n : ℕ). min n mostAvps) (c .before .count .ensures)
+returns c =
+    let used : c .used .result ≡ min (c .before .count .result) mostAvps = c .used .ensures in
+    used ∙ ap (λ (n : ℕ). min n mostAvps) (c .before .count .ensures)
 
 pub used-spec : {M : Type 1} → statement M
 used-spec = tie.close (tie.spec count-requires used-requires returns)

@@ -2,7 +2,7 @@
 use borrow.Author.Needs.{needs}
 use mathlib.Core.Path.{_≡_, sym, _∙_}
 use mathlib.Core.Bool.{false}
-use Prim.Native.Nat.{_+_, _-_, _≤_}
+use Prim.Native.Nat.{ℕ, _+_, _-_, _≤_}
 use native.Mathlib.Omega.{arith}
 use lib.ListN.{length, length-replicate}
 use Rattle.rules.specs.Octets.{padded}
@@ -119,7 +119,7 @@ returns-2 c =
     let least = padded-least (a .a .length) in
     let run = put-fits _ _ _ (a .a .length) long (omega (arith, room at-if1)) _ (at-octets .put-octets .ensures) in
     let n = at-padded-length .padded-length .result - a .a .length in
-    let zeros = put-fits _ _ _ n (length-replicate n 0) (omega (arith, padded-room at-padded-length)) _
+    let zeros = put-fits _ _ _ n (length-replicate {A = ℕ} n 0) (omega (arith, padded-room at-padded-length)) _
     (at-zeros .put-zeros .ensures) in
     put-part (a .s .now) (a .a) (start .pre .whole) (part at-if1) (a .out .now) (a .at) _ _ header _ run _
     (at-padded-length .padded-length .ensures .0) _ zeros

@@ -106,7 +106,7 @@ returns-2 c s =
     let first = put-fits _ (a .at) _ 4 (octets-four (a .a .code)) (omega arith) _ (at-first .put-number4 .ensures) in
     let second = put-fits _ (a .at + 5) _ 3 (octets-three (12 + a .a .length)) (omega arith) _
     (at-second .put-number32 .ensures) in
-    let third = put-fits _ (a .at + 8) _ 4 (octets-four (a .a .vendor)) (omega arith) _ (at-third .put-number42 .ensures) in
+    let third = put-fits _ (a .at + 8) _ 4 (octets-four _) (omega arith) _ (at-third .put-number42 .ensures) in
     header-with-vendor s (a .a) (a .out .now) (a .at) _ first _ (at-flags .avp-flags .ensures s) 12 (sym twelve) _ second
     (at-if1 .if1 .left) _ third
 

@@ -1,5 +1,7 @@
 -- `encoding::flags::command_flags` meets its contract.
 use borrow.Author.Needs.{needs}
+use mathlib.Core.Path.{_≡_}
+use mathlib.Core.Bool.{cond}
 use Rattle.rules.specs.Wire.{flagsOctet}
 use Rattle.encoding.proofs.flags.command_flags.Statement.{statement}
 use Rattle.encoding.proofs.flags.command_flags.Tie as tie
@@ -31,10 +33,16 @@ add-result-3 c = search needs
 returns : tie.Need-returns
 unfolding flagsOctet
 returns c s =
-    let one = c .before .before .before .flag .ensures .is in
-    let two = c .before .before .flag2 .ensures .is in
-    let three = c .before .flag3 .ensures .is in
-    rw (one, two, three, c .flag4 .ensures .is, c .before .before .before .before .head-of .ensures)
+    let at-e = c .before in
+    let at-p = at-e .before in
+    let at-r = at-p .before in
+    let at-head = at-r .before in
+    let head = at-head .head-of .result in
+    let r : at-r .flag .result ≡ cond (head .r) 128 0 = at-r .flag .ensures .is in
+    let p : at-p .flag2 .result ≡ cond (head .p) 64 0 = at-p .flag2 .ensures .is in
+    let e : at-e .flag3 .result ≡ cond (head .e) 32 0 = at-e .flag3 .ensures .is in
+    let t : c .flag4 .result ≡ cond (head .t) 16 0 = c .flag4 .ensures .is in
+    rw (r, p, e, t, at-head .head-of .ensures)
 
 pub command-flags-spec : {M : Type 1} → statement M
 command-flags-spec =

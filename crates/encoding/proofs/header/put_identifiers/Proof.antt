@@ -3,6 +3,7 @@ use borrow.Author.Needs.{needs}
 use native.Mathlib.Omega.{arith}
 use Rattle.rules.specs.Header.{applicationNt}
 use Rattle.output.proofs.Output.{octets-four, put-fits}
+use Rattle.encoding.proofs.Commands.{identifiers-put}
 use Rattle.encoding.proofs.header.put_identifiers.Statement.{statement}
 use Rattle.encoding.proofs.header.put_identifiers.Tie as tie
 
@@ -27,11 +28,10 @@ returns c =
     let at-second = at-third .before .before .before .before in
     let at-first = at-second .before .before .before .before in
     let at-head-of = at-first .before .before in
-    let head = at-head-of .head-of .result in
     let first = put-fits _ 8 _ 4 (octets-four applicationNt) (omega arith) _ (at-first .put-number4 .ensures) in
-    let second = put-fits _ 12 _ 4 (octets-four (head .«hop_by_hop»)) (omega arith) _ (at-second .put-number42 .ensures) in
-    let third = put-fits _ 16 _ 4 (octets-four (head .«end_to_end»)) (omega arith) _ (at-third .put-number43 .ensures) in
-    rw (third, second, first, at-head-of .head-of .ensures)
+    let second = put-fits _ 12 _ 4 (octets-four _) (omega arith) _ (at-second .put-number42 .ensures) in
+    let third = put-fits _ 16 _ 4 (octets-four _) (omega arith) _ (at-third .put-number43 .ensures) in
+    identifiers-put _ _ _ (at-head-of .head-of .ensures) _ first _ second _ third
 
 pub put-identifiers-spec : {M : Type 1} → statement M
 put-identifiers-spec =
