@@ -162,7 +162,8 @@ group-promise t l =
     let g = w .before .before .before in
     let st = g .before .before .before .before in
     let a = st .args in
-    group-walked (a .s .now) (here t st) (a .log .now) _ (w .put2 .ensures) (group-checked t g) _ _ (l .walk-list .ensures)
+    group-walked (a .s .now) (here t st) (a .log .now) _ (w .put2 .ensures) (group-checked t g)
+    (l .walk-list .result) (l .walk-list .last .1 .1 .1 .1 .1 .0) (l .walk-list .ensures)
 
 walk-avp-returns-3 : (t : ℕ) → walk-avp-lts.Need-returns-3 (walk-avp-claims t) (walk-avp-at t) walk-avp.Post
 walk-avp-returns-3 t c =
@@ -252,8 +253,8 @@ walk-list-returns :
 walk-list-returns t c =
     let w = c .before .before .before in
     let lp = w .before .before .before in
-    turn-stopped _ _ _ _ _ _ (lp .loop .inv) (w .before .before .loop-test .taken) _ _
-    (rw (c .before .one2 .given .1) at (w .walk-avp .ensures))
+    turn-stopped _ _ _ _ _ _ (lp .loop .inv) (w .before .before .loop-test .taken) (c .before .one2 .given .0 .0)
+    (w .walk-avp .last .1 .1 .1 .1 .1 .0) (rw (c .before .one2 .given .1) at (w .walk-avp .ensures))
 
 walk-list-returns-2 :
     (t : ℕ) →

@@ -26,7 +26,8 @@ returns-3 c =
     let e = c .before .before .before in
     let z = e .before in
     let a = z .before .before .before .args in
-    command-walked (a .s .now) (e .if1 .left) (a .log .now) _ _ (z .size .ensures .1) (c .walk-list .ensures)
+    command-walked (a .s .now) (e .if1 .left) (a .log .now) (c .walk-list .last .1 .1 .1 .1 .1 .0) (c .walk-list .result)
+    (z .size .ensures .1) (c .walk-list .ensures)
 
 pub walk-command-spec : {M : Type 1} → statement M
 walk-command-spec =

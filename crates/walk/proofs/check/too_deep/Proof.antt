@@ -1,7 +1,8 @@
 -- `walk::check::too_deep` meets its contract.
 use borrow.Author.Needs.{needs}
-use mathlib.Core.Path.{sym, _∙_}
-use Rattle.rules.specs.Walk.{tooDeep}
+use mathlib.Core.Path.{_≡_, sym, _∙_}
+use lib.Dec.{leb}
+use Rattle.rules.specs.Walk.{deepest, tooDeep}
 use Rattle.walk.proofs.check.too_deep.Statement.{statement}
 use Rattle.walk.proofs.check.too_deep.Tie as tie
 
@@ -12,7 +13,9 @@ returns : tie.Need-returns
 unfolding tooDeep
 returns c =
     let g = c .before .before in
-    rw (sym (g .is-group .ensures) ∙ c .before .if1 .taken)
+    let a = g .before .args in
+    let deep : leb deepest (a .a .depth) ≡ tooDeep (a .a) (a .d) = rw (sym (g .is-group .ensures) ∙ c .before .if1 .taken) in
+    deep
 
 returns-2 : tie.Need-returns-2
 unfolding tooDeep

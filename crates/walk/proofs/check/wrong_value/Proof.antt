@@ -1,7 +1,10 @@
 -- `walk::check::wrong_value` meets its contract.
 use borrow.Author.Needs.{needs}
-use mathlib.Core.Path.{sym, _∙_}
+use mathlib.Core.Path.{_≡_, sym, ap, _∙_}
+use mathlib.Core.Bool.{not}
+use lib.Dec.{eqb}
 use borrow.Author.Tests.{eq-eqb, ne-eqb}
+use Rattle.rules.specs.Octets.{numberAt}
 use Rattle.rules.specs.Walk.{wrongValue}
 use Rattle.walk.proofs.check.wrong_value.Statement.{statement}
 use Rattle.walk.proofs.check.wrong_value.Tie as tie
@@ -19,7 +22,11 @@ returns : tie.Need-returns
 unfolding wrongValue
 returns c =
     let f = c .before .before in
-    rw (c .number4 .ensures .is, sym (f .is-named .ensures) ∙ c .before .if1 .taken)
+    let a = f .before .before .before .args in
+    let n = c .number4 .result in
+    let value : n ≡ numberAt 4 (a .s .now) (a .a .start) = c .number4 .ensures .is in
+    let wrong : not (eqb n 1) ≡ wrongValue (a .a) n = rw (sym (f .is-named .ensures) ∙ c .before .if1 .taken) in
+    wrong ∙ ap (wrongValue (a .a)) value
 
 is-named-requires-2 : tie.Need-is-named-requires-2
 is-named-requires-2 c κs = search needs

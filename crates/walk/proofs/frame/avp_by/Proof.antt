@@ -1,5 +1,7 @@
 -- `walk::frame::avp_by` meets its contract.
 use borrow.Author.Needs.{needs}
+use mathlib.Core.Path.{_≡_}
+use Rattle.rules.specs.Avp.{flagM, flagP}
 use Rattle.walk.proofs.frame.avp_by.Statement.{statement}
 use Rattle.walk.proofs.frame.avp_by.Tie as tie
 
@@ -22,7 +24,12 @@ sub-t13 : tie.Need-sub-t13
 sub-t13 c = search needs
 
 returns : tie.Need-returns
-returns c = rw (c .before .has-flag .ensures, c .has-flag2 .ensures)
+returns c =
+    let at-m = c .before in
+    let a = at-m .before .args in
+    let m : at-m .has-flag .result ≡ flagM (a .flags) = at-m .has-flag .ensures in
+    let p : c .has-flag2 .result ≡ flagP (a .flags) = c .has-flag2 .ensures in
+    rw (m, p)
 
 pub avp-by-spec : {M : Type 1} → statement M
 avp-by-spec =
