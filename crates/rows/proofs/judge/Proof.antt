@@ -4,7 +4,7 @@ use mathlib.Core.Path.{_≡_, sym, _∙_}
 use native.Mathlib.Omega.{arith}
 use Rattle.rules.specs.Verdict.{orElse}
 use Rattle.rules.specs.Dictionary.{dictionary}
-use Rattle.rules.specs.RowChecks.{groupsOutcome, rowsOutcome}
+use Rattle.rules.specs.RowChecks.{listOutcome, groupsOutcome, rowsOutcome}
 use Rattle.log.specs.Log.{avpsIn}
 use Rattle.log.proofs.Log.{avps-used}
 use Rattle.rules.proofs.Outcomes.{refused-first, pass-first, answers}
@@ -25,7 +25,9 @@ own : (c : tie.After-list-outcome) →
     ≡ rowsOutcome dictionary (s .grammar) (s .end) (avpsIn (s .log .now) (s .count))
 own c =
     let s = c .before .before .args in
-    rows-next _ _ _ _ _ (c .list-outcome .ensures) ∙ rw (c .before .used .ensures, avps-used (s .log .now) (s .count))
+    let xs = avpsIn (s .log .now) (c .before .used .result) in
+    let list : c .list-outcome .result ≡ listOutcome (s .grammar) 1 (s .end) xs = c .list-outcome .ensures in
+    rows-next _ _ _ _ _ list ∙ rw (c .before .used .ensures, avps-used (s .log .now) (s .count))
 
 enum-told : tie.Need-enum-told
 enum-told c = search needs
@@ -41,8 +43,10 @@ groups-outcome-requires c κs = omega (arith, c .before .before .before .used .e
 
 returns-2 : tie.Need-returns-2
 returns-2 c =
-    answers _ _ _
-    (c .groups-outcome .ensures ∙ sym (pass-first _ _ (c .before .enum-told2 .given .1)) ∙ own (c .before .before .before))
+    let l = c .before .before .before in
+    let xs = avpsIn (l .before .before .args .log .now) (l .before .used .result) in
+    let groups : c .groups-outcome .result ≡ groupsOutcome dictionary xs = c .groups-outcome .ensures in
+    answers _ _ _ (groups ∙ sym (pass-first _ _ (c .before .enum-told2 .given .1)) ∙ own l)
 
 pub judge-spec : {M : Type 1} → statement M
 judge-spec =

@@ -1,7 +1,10 @@
 -- `exchange::answer::policies_outcome` meets its contract.
-use mathlib.Core.Path.{sym, _∙_}
+use mathlib.Core.Path.{_≡_, sym, _∙_}
 use native.Mathlib.Omega.{arith}
 use borrow.Author.Needs.{needs}
+use Rattle.rules.specs.Header.{vendor3GPP}
+use Rattle.rules.specs.Exchange.{require}
+use Rattle.log.specs.Log.{avpsIn}
 use Rattle.exchange.proofs.Rules.{no-policy, policy-unreferenced, one-policy, more-policies}
 use Rattle.exchange.proofs.answer.policies_outcome.Statement.{statement}
 use Rattle.exchange.proofs.answer.policies_outcome.Tie as tie
@@ -71,7 +74,10 @@ returns-4 c =
     let k = r .before .before in
     let policy = sym (k .before .before .search .ensures .is) ∙ k .i .given .1 in
     let reference = sym (r .require .ensures) ∙ q .enum-told2 .given .1 in
-    c .require2 .ensures ∙ more-policies _ _ _ policy reference _ (sym (n .first .ensures .is) ∙ m .enum-told4 .given .1)
+    let a = k .before .before .before .args in
+    let xs = avpsIn (a .log .now) (a .count) in
+    let address : c .require2 .result ≡ require xs (a .end) vendor3GPP 2207 = c .require2 .ensures in
+    address ∙ more-policies _ _ _ policy reference _ (sym (n .first .ensures .is) ∙ m .enum-told4 .given .1)
 
 pub policies-outcome-spec : {M : Type 1} → statement M
 policies-outcome-spec =

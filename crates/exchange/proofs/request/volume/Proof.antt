@@ -1,6 +1,8 @@
 -- `exchange::request::volume` meets its contract.
-use mathlib.Core.Path.{sym, _∙_}
+use mathlib.Core.Path.{_≡_, sym, _∙_}
 use borrow.Author.Needs.{needs}
+use Rattle.rules.specs.Exchange.{require}
+use Rattle.log.specs.Log.{avpsIn}
 use Rattle.exchange.proofs.Rules.{volume-input, volume-total, volume-output}
 use Rattle.exchange.proofs.request.volume.Statement.{statement}
 use Rattle.exchange.proofs.request.volume.Tie as tie
@@ -40,7 +42,9 @@ returns-3 : tie.Need-returns-3
 returns-3 c =
     let g = c .before in
     let f = g .before .before .before in
-    c .require .ensures
+    let a = f .before .before .before .args in
+    let output : c .require .result ≡ require (avpsIn (a .log .now) (a .count)) (a .end) 0 414 = c .require .ensures in
+    output
     ∙ volume-output _ _
     (sym (f .before .before .search .ensures .is) ∙ f .enum-told2 .given .1)
     (sym (g .before .before .search2 .ensures .is) ∙ g .enum-told4 .given .1)
