@@ -103,8 +103,8 @@ module _ {book before : List ℕ} {start : ℕ} where
 -- ---- the whole listing
 
 -- where the lines start
-pub head-put : {book before : List ℕ} {r : ℕ} {after : List ℕ} → isBook book ≡ true → Put before 0 headLine r after → HeadPut book r
-head-put {book} e p = record { head = book-head book e; short = book-size book e; place = omega (arith, p .next) }
+pub head-put : {book : List ℕ} {r : ℕ} → isBook book ≡ true → r ≤ 6 → HeadPut book r
+head-put {book} e h = record { head = book-head book e; short = book-size book e; place = h }
 
 module _ (book before : List ℕ) {r : ℕ} {after : List ℕ} where
   pub listed-none : isBook book ≡ false → Put before 0 notABook r after → ListingPut book before r after

@@ -1,6 +1,9 @@
 -- `book::listing` meets its contract.
 use borrow.Author.Needs.{needs}
 use mathlib.Core.Path.{sym, _∙_}
+use native.Mathlib.Omega.{arith}
+use Rattle.rules.specs.Book.{headLine, notABook}
+use Rattle.book.specs.Promise.{Put}
 use Rattle.book.proofs.Turns.{head-put, listed, listed-none}
 use Rattle.book.proofs.listing.Statement.{statement}
 use Rattle.book.proofs.listing.Tie as tie
@@ -18,13 +21,15 @@ put-lines-requires : tie.Need-put-lines-requires
 put-lines-requires c κs =
     let w = c .before .before in
     let i = w .before .before .before in
-    head-put (sym (i .before .is-book .ensures) ∙ i .if1 .taken) (w .put-word .ensures)
+    head-put (sym (i .before .is-book .ensures) ∙ i .if1 .taken) (omega (arith, w .put-word .ensures .next))
 
 returns : tie.Need-returns
 returns c =
     let w = c .before .before .before in
     let i = w .before .before .before in
-    listed _ _ (sym (i .before .is-book .ensures) ∙ i .if1 .taken) (w .put-word .ensures) (c .put-lines .ensures)
+    let a = i .before .before .before .args in
+    let head : Put (a .out .now) 0 headLine (w .put-word .result) (w .put-word .last .0) = w .put-word .ensures in
+    listed _ _ (sym (i .before .is-book .ensures) ∙ i .if1 .taken) head (c .put-lines .ensures)
 
 slice-aggregate-put-word-2 : tie.Need-slice-aggregate-put-word-2
 slice-aggregate-put-word-2 c = search needs
@@ -35,7 +40,9 @@ put-word-requires-2 c κs = search needs
 returns-2 : tie.Need-returns-2
 returns-2 c =
     let i = c .before .before .before in
-    listed-none _ _ (sym (i .before .is-book .ensures) ∙ i .if1 .left) (c .put-word2 .ensures)
+    let a = i .before .before .before .args in
+    let words : Put (a .out .now) 0 notABook (c .put-word2 .result) (c .put-word2 .last .0) = c .put-word2 .ensures in
+    listed-none _ _ (sym (i .before .is-book .ensures) ∙ i .if1 .left) words
 
 pub listing-spec : {M : Type 1} → statement M
 listing-spec =

@@ -2,6 +2,7 @@
 use borrow.Author.Needs.{needs}
 use mathlib.Core.List.{[], _∷_, _++_}
 use Rattle.rules.specs.Book.{space, newline, cutWord}
+use Rattle.book.specs.Promise.{Put}
 use Rattle.book.proofs.Lines.{put-line}
 use Rattle.book.proofs.put_cut_line.Statement.{statement}
 use Rattle.book.proofs.put_cut_line.Tie as tie
@@ -19,10 +20,11 @@ returns : tie.Need-returns
 returns c =
     let p = c .before .before .before in
     let a = p .before .before .args in
+    let start = p .put-ordinal-and-offset in
+    let word : Put (start .last .0) (start .result) (space ∷ cutWord ++ (newline ∷ [])) (c .put-word .result)
+    (c .put-word .last .0) = c .put-word .ensures in
     record {
-      put =
-          put-line (a .ordinal) (a .offset) [] (space ∷ cutWord ++ (newline ∷ [])) (p .put-ordinal-and-offset .ensures .put)
-          (c .put-word .ensures);
+      put = put-line (a .ordinal) (a .offset) [] (space ∷ cutWord ++ (newline ∷ [])) (start .ensures .put) word;
       within = search needs;
     }
 

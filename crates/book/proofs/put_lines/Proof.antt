@@ -1,9 +1,11 @@
 -- `book::put_lines` meets its contract: before each turn the lines that are left make the listing whole.
 use borrow.Author.Needs.{needs}
 use mathlib.Core.Path.{sym, _∙_}
-use Prim.Native.Nat.{_-_}
+use Prim.Native.Nat.{_+_, _-_}
 use native.Mathlib.Omega.{arith}
 use lib.ListN.{length}
+use Rattle.rules.specs.Book.{commandLine, endLine}
+use Rattle.book.specs.Promise.{Put, PutWithin}
 use Rattle.book.proofs.Cuts.{whole}
 use Rattle.book.proofs.Turns.{LinesLeft, first-turn, turn-cut, next-turn, turn-end, acceptance-small}
 use Rattle.book.proofs.put_lines.Statement.{statement}
@@ -87,9 +89,12 @@ loop-again c =
     let v = p .before .before in
     let e = v .before .before in
     let l = e .before .before in
+    let o = l .before .loop in
+    let line : PutWithin 66 (o .out) (o .at) (commandLine (o .commands + 1) (o .offset) (v .verdict-at .result))
+    (p .put-command-line .result) (p .put-command-line .last .0) = p .put-command-line .ensures in
     rw (c .number3 .ensures .is, a .acceptance-of .ensures)
-    (next-turn (l .before .loop .inv) (l .loop-test .taken) (sym (e .before .is-cut .ensures) ∙ e .if1 .left)
-    (v .verdict-at .ensures) (p .put-command-line .ensures))
+    (next-turn (o .inv) (l .loop-test .taken) (sym (e .before .is-cut .ensures) ∙ e .if1 .left) (v .verdict-at .ensures)
+    line)
 
 put-end-line-requires : tie.Need-put-end-line-requires Inv-loop μ-loop
 put-end-line-requires c κs = search needs
@@ -97,8 +102,11 @@ put-end-line-requires c κs = search needs
 returns-2 : tie.Need-returns-2 Inv-loop μ-loop
 returns-2 c =
     let l = c .before .before in
+    let o = l .before .loop in
+    let line : Put (o .out) (o .at) (endLine (o .commands) (o .accepted)) (c .put-end-line .result)
+    (c .put-end-line .last .0) = c .put-end-line .ensures .put in
     record {
-      put = turn-end (l .before .loop .inv) (l .loop-test .left) (c .put-end-line .ensures .put);
+      put = turn-end (o .inv) (l .loop-test .left) line;
       within = search needs;
     }
 
