@@ -31,7 +31,7 @@ returns c =
     let r = c .before .before .before .before in
     let s = r .before .before .args .s .now in
     let read = r .read .ensures in
-    let put = c .before .put .ensures in
+    let put : c .before .put .last .0 ≡ numbersOf (r .read .result .«record») = c .before .put .ensures in
     let recorded = put ∙ ap (λ (x : Reading). numbersOf (x .«record»)) read in
     record {
       verdict = ap (λ (x : Reading). x .verdict) read;

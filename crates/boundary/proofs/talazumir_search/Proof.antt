@@ -11,7 +11,7 @@ use Rattle.boundary.proofs.talazumir_search.Statement.{statement}
 use Rattle.boundary.proofs.talazumir_search.Tie as tie
 
 abbrev Inv-loop : tie.InvT-loop
-Inv-loop numbers vendor code used i₀ i = (i ≤ used) × ((used ≡ min (numberedCount numbers) mostAvps) × (positionLeft numbers vendor code i ≡ searchNumbers numbers vendor code))
+Inv-loop numbers vendor code used i₀ i = (positionLeft numbers vendor code i ≡ searchNumbers numbers vendor code) × ((i ≤ used) × (used ≡ min (numberedCount numbers) mostAvps))
 
 abbrev μ-loop : tie.MeasureT-loop
 μ-loop numbers vendor code used i₀ i = used - i
@@ -22,7 +22,7 @@ used-requires c κs = search needs
 loop-holds : tie.Need-loop-holds Inv-loop μ-loop
 loop-holds c =
     let a = c .before .args in
-    (omega arith, (c .used .ensures, position-all (a .numbers .now) (a .vendor) (a .code)))
+    (position-all (a .numbers .now) (a .vendor) (a .code), (omega arith, c .used .ensures))
 
 get-requires : tie.Need-get-requires Inv-loop μ-loop
 get-requires c κs = search needs
@@ -38,8 +38,8 @@ returns c =
     let g = c .before .before in
     let l = g .before .before .loop in
     let a = g .before .before .before .before .args in
-    let here = position-here (a .numbers .now) (a .vendor) (a .code) (l .i) (omega (arith, g .before, l .inv .1 .0)) (g .get .result) (g .get .ensures) (sym (c .before .is-found .ensures) ∙ c .if1 .taken) in
-    omega (arith, here, l .inv .1 .1)
+    let here = position-here (a .numbers .now) (a .vendor) (a .code) (l .i) (omega (arith, g .before, l .inv .1)) (g .get .result) (g .get .ensures) (sym (c .before .is-found .ensures) ∙ c .if1 .taken) in
+    omega (arith, here, l .inv .0)
 
 add-i : tie.Need-add-i Inv-loop μ-loop
 add-i c = omega arith
@@ -52,12 +52,9 @@ loop-again c =
     let g = c .before .before in
     let l = g .before .before .loop in
     let a = g .before .before .before .before .args in (
-      omega arith,
-      (
-        l .inv .1 .0,
-        sym (position-later (a .numbers .now) (a .vendor) (a .code) (l .i) (omega (arith, g .before, l .inv .1 .0)) (g .get .result) (g .get .ensures) (sym (c .before .is-found .ensures) ∙ c .if1 .left))
-            ∙ l .inv .1 .1,
-      ),
+      sym (position-later (a .numbers .now) (a .vendor) (a .code) (l .i) (omega (arith, g .before, l .inv .1)) (g .get .result) (g .get .ensures) (sym (c .before .is-found .ensures) ∙ c .if1 .left))
+          ∙ l .inv .0,
+      (omega arith, l .inv .1 .1),
     )
 
 cast-result-2 : tie.Need-cast-result-2 Inv-loop μ-loop
@@ -67,8 +64,8 @@ returns-2 : tie.Need-returns-2 Inv-loop μ-loop
 returns-2 c =
     let l = c .before .loop in
     let a = c .before .before .before .args in
-    let none = position-end (a .numbers .now) (a .vendor) (a .code) (l .i) (omega (arith, c .loop-test .left, l .inv .1 .0)) in
-    omega (arith, none, l .inv .1 .1)
+    let none = position-end (a .numbers .now) (a .vendor) (a .code) (l .i) (omega (arith, c .loop-test .left, l .inv .1)) in
+    omega (arith, none, l .inv .0)
 
 pub talazumir-search-spec : {M : Type 1} → statement M
 talazumir-search-spec =

@@ -7,6 +7,7 @@ use lib.ListN.{length}
 use Rattle.rules.specs.Walk.{mostAvps}
 use Rattle.rules.specs.Draft.{Draft}
 use Rattle.lookup.proofs.Positions.{length-mapped}
+use Rattle.numbers.specs.Numbers.{numbersOf}
 use Rattle.numbers.specs.Draft.{numberedDraft}
 use Rattle.numbers.proofs.Draft.{numbered-draft}
 use Rattle.writer.specs.Promise.{IsWritten}
@@ -31,7 +32,8 @@ returns c =
     let at-put = at-write-numbers .before .before .before in
     let start = at-put .before .before .before .before in
     let a = start .args in
-    let same = ap (λ (n : List ℕ). numberedDraft n (a .s .now)) (at-put .put .ensures)
+    let put : at-put .put .last .0 ≡ numbersOf (a .draft) = at-put .put .ensures in
+    let same = ap (λ (n : List ℕ). numberedDraft n (a .s .now)) put
     ∙ numbered-draft (a .draft) (full start) (a .s .now) in
     let w = at-write-numbers .write-numbers in
     let is : Draft → Type 0 = λ d. IsWritten d (a .out .now) (w .result) (w .last .1 .1 .0) in

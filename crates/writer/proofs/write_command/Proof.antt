@@ -12,7 +12,7 @@ use Rattle.writer.proofs.write_command.Tie as tie
 slice-aggregate-outcome : tie.Need-slice-aggregate-outcome
 slice-aggregate-outcome c =
     let start = c .before .before .before in
-    sym (length-take-le (start .args .size) (start .args .command .now) (start .pre .holds))
+    sym (length-take-le _ (start .args .command .now) (omega (arith, start .pre .holds)))
 
 outcome-requires : tie.Need-outcome-requires
 outcome-requires c κs = search needs
@@ -38,7 +38,7 @@ slice-aggregate-put-octets : tie.Need-slice-aggregate-put-octets
 slice-aggregate-put-octets c =
     let at-outcome = c .before .before .before .before in
     let start = at-outcome .before .before .before .before .before in
-    sym (length-take-le (start .args .size) (start .args .command .now) (start .pre .holds))
+    sym (length-take-le _ (start .args .command .now) (omega (arith, start .pre .holds)))
 
 put-octets-requires : tie.Need-put-octets-requires
 put-octets-requires c κs = search needs

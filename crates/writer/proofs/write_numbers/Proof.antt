@@ -26,8 +26,10 @@ returns c =
     let at-own = c .before .before in
     let at-encode = at-own .before .before in
     let a = at-encode .before .before .before .before .before .args in
-    let refusal = sym (at-encode .encode .ensures .outcome) ∙ at-own .own .given .1 in
-    written-refused (numberedDraft (a .numbers .now) (a .s .now)) (a .out .now) refusal _ (c .refused .ensures)
+    let d = numberedDraft (a .numbers .now) (a .s .now) in
+    let outcome : at-encode .encode .result .outcome ≡ ownOutcome d (length (a .out .now)) = at-encode .encode .ensures
+    .outcome in
+    written-refused d (a .out .now) (sym outcome ∙ at-own .own .given .1) _ (c .refused .ensures)
 
 enum-told : tie.Need-enum-told
 enum-told c = search needs
