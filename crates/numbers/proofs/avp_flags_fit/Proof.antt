@@ -1,6 +1,11 @@
 -- `numbers::avp_flags_fit` meets its contract.
 use borrow.Author.Needs.{needs}
+use mathlib.Core.Path.{_≡_}
+use Prim.Native.Nat.{_+_}
 use borrow.Author.Tests.{lt-leb, le-leb}
+use lib.Dec.{leb}
+use lib.ListN.{getD}
+use Rattle.numbers.specs.Numbers.{numberedPlace}
 use Rattle.numbers.specs.Flags.{avpFlagsFit}
 use Rattle.numbers.proofs.avp_flags_fit.Statement.{statement}
 use Rattle.numbers.proofs.avp_flags_fit.Tie as tie
@@ -35,7 +40,11 @@ element-copy-out-result c = search needs
 
 returns-2 : tie.Need-returns-2
 unfolding avpFlagsFit
-returns-2 c = rw (le-leb _ 1 (c .before .if1 .left))
+returns-2 c =
+    let a = c .before .before .before .args in
+    let n = a .numbers .now in
+    let p : leb (getD n (numberedPlace (a .position) + 4) 0) 1 ≡ avpFlagsFit n (a .position) = rw (le-leb _ 1 (c .before .if1 .left)) in
+    p
 
 pub avp-flags-fit-spec : {M : Type 1} → statement M
 avp-flags-fit-spec =

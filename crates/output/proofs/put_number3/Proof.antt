@@ -3,6 +3,7 @@ use borrow.Author.Needs.{needs}
 use mathlib.Core.Path.{_∙_}
 use native.Mathlib.Omega.{arith}
 use lib.ListN.{length-set}
+use Rattle.rules.specs.Octets.{octets}
 use Rattle.octets.proofs.Puts.{stored-number}
 use Rattle.output.proofs.Output.{octets-three, put-none, put-all}
 use Rattle.output.proofs.put_number3.Statement.{statement}
@@ -52,7 +53,7 @@ returns-3 : tie.Need-returns-3
 returns-3 c =
     let a = c .before .before .args in
     stored-number 3 (a .out .now) (a .at) (a .n)
-    ∙ put-all (a .out .now) (a .at) _ 3 (octets-three (a .n)) (omega arith)
+    ∙ put-all (a .out .now) (a .at) (octets 3 (a .n)) 3 (octets-three (a .n)) (omega arith)
 
 pub put-number3-spec : {M : Type 1} → statement M
 put-number3-spec =

@@ -3,6 +3,7 @@ use borrow.Author.Needs.{needs}
 use mathlib.Core.Path.{_∙_}
 use native.Mathlib.Omega.{arith}
 use lib.ListN.{length-set}
+use Rattle.rules.specs.Octets.{octets}
 use Rattle.octets.proofs.Puts.{stored-number}
 use Rattle.output.proofs.Output.{octets-four, put-none, put-all}
 use Rattle.output.proofs.put_number4.Statement.{statement}
@@ -61,7 +62,7 @@ returns-3 : tie.Need-returns-3
 returns-3 c =
     let a = c .before .before .args in
     stored-number 4 (a .out .now) (a .at) (a .n)
-    ∙ put-all (a .out .now) (a .at) _ 4 (octets-four (a .n)) (omega arith)
+    ∙ put-all (a .out .now) (a .at) (octets 4 (a .n)) 4 (octets-four (a .n)) (omega arith)
 
 pub put-number4-spec : {M : Type 1} → statement M
 put-number4-spec =
