@@ -69,7 +69,7 @@ pub demand-2-accepted-write : (d : Draft) (out : List ℕ) → AcceptedWrite d o
 demand-2-accepted-write = draft-number
 
 -- 01: "The returned record, over the command's octets, has the command's meaning."
--- Carried by sound (read/Soundness: what is read was written) and accepted (read/Commands).
+-- Carried by sound (read/Soundness: what is read was written) and accepted-items (read/Commands).
 -- Ruled out: a record with a made-up count; one that leaves out the members of groups, or gives their data places
 -- within the group instead of the command.
 pub demand-2-record : (c : List ℕ) → AreOctets c → AcceptedCommand c → meaningOver (reading c .«record») c ≡ meaningOf c
@@ -109,7 +109,7 @@ demand-2-rewrite c out oct a room =
 -- "Any two accepted commands have the same meaning exactly when they agree in every octet outside padding and the four
 -- reserved command bits." `agree` computes whether they do: agree-tells (agreement/Tested).
 -- Carried by same-octets and same-flats (agreement/Alike), same-cells (agreement/Depths: depths follow from the rest)
--- and accepted (read/Commands: the items of an accepted command).
+-- and accepted-items (read/Commands: the items of an accepted command).
 -- Ruled out: a meaning of the AVP texts run together, so that two commands with their octets cut at different places
 -- have one; a meaning that holds the padding or the reserved bits, so that a command rewritten has another.
 pub demand-3-commands : (a b : List ℕ) → AreOctets a → AreOctets b → AcceptedCommand a → AcceptedCommand b
