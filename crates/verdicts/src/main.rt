@@ -1,7 +1,7 @@
 // Prints the listing of the book on standard input (01, The book and its listing). It only moves octets: what the
 // listing is, the crate `book` settles.
 ghost use lib.ListN.{length};
-ghost use Rattle.verdicts.specs.Input.{ReadWhole};
+ghost use Rattle.verdicts.specs.Input.{ReadWhole, Printed};
 use libc::STDERR_FILENO;
 use libc::STDIN_FILENO;
 use libc::STDOUT_FILENO;
@@ -34,25 +34,32 @@ fn read_input(buffer: &mut [u8]) -> Input
     Input::Octets { count, last }
 }
 
-// A listing that could not be written whole lacks at least the end of its last line, and standard error says so.
-fn print_listing(book: &[u8]) {
+// Puts what is to be printed for an input: the listing of the octets that were read. A read that failed is not the end of
+// the input: no octet follows it.
+fn put_printed(input: Input, buffer: &[u8], out: &mut [u8; limits::LISTING_ROOM]) -> usize
+    requires { ⌜ ReadWhole (length (now buffer)) input ⌝ }
+    ensures { λ r. ⌜ Printed input (now (buffer .entry)) (now (out .entry)) r (now (out .exit)) ⌝ }
+{
+    match input {
+        Input::Octets { count, last } => book::listing(&buffer[..count], out),
+        Input::Failed => 0,
+    }
+}
+
+// The buffer has room for one octet more than the longest book, so that a longer one is seen to be longer. Every listing
+// has octets, so none says that reading failed. A listing that could not be written whole lacks at least the end of its
+// last line, and standard error says so.
+fn main() {
+    let mut buffer = [0u8; limits::LONGEST_BOOK + 1];
     let mut out = [0u8; limits::LISTING_ROOM];
-    let length = book::listing(book, &mut out);
+    let input = read_input(&mut buffer);
+    let length = put_printed(input, &buffer, &mut out);
+    if length == 0 {
+        io::write_all(STDERR_FILENO, b"verdicts: reading failed\n");
+        return;
+    }
     if io::write_all(STDOUT_FILENO, &out[..length]) {
         return;
     }
     io::write_all(STDERR_FILENO, b"verdicts: writing failed\n");
-}
-
-// The buffer has room for one octet more than the longest book, so that a longer one is seen to be longer. A read that
-// failed is not the end of the input: no listing follows it.
-fn main() {
-    let mut buffer = [0u8; limits::LONGEST_BOOK + 1];
-    let input = read_input(&mut buffer);
-    match input {
-        Input::Octets { count, last } => print_listing(&buffer[..count]),
-        Input::Failed => {
-            io::write_all(STDERR_FILENO, b"verdicts: reading failed\n");
-        }
-    }
 }

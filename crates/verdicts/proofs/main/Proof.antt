@@ -1,8 +1,12 @@
--- `verdicts::main` meets its contract: the octets that were read lie in the buffer.
-use mathlib.Core.Path.{sym}
-use lib.Seq.{length-take-le}
+-- `verdicts::main` meets its contract: what was read and what is printed lie in the lent octets.
+use mathlib.Core.Path.{sym, _∙_}
+use Prim.Native.Nat.{ℕ}
 use native.Mathlib.Omega.{arith}
+use lib.ListN.{length, replicate, length-replicate}
+use lib.Seq.{length-take-le}
+use Rattle.book.specs.Promise.{room}
 use borrow.Author.Needs.{needs}
+use Rattle.verdicts.proofs.Printed.{whole-length, printed-length}
 use Rattle.verdicts.proofs.main.Statement.{statement}
 use Rattle.verdicts.proofs.main.Tie as tie
 
@@ -12,22 +16,13 @@ slice-aggregate-read-input c = search needs
 read-input-requires : tie.Need-read-input-requires
 read-input-requires c κs = search needs
 
-enum-known-input : tie.Need-enum-known-input
-enum-known-input c = search needs
+slice-aggregate-put-printed : tie.Need-slice-aggregate-put-printed
+slice-aggregate-put-printed c = search needs
 
-array-share-prefix-buffer : tie.Need-array-share-prefix-buffer
-array-share-prefix-buffer c =
-    let r = c .before .before .before .before in
-    omega (arith, rw (c .before .input .given .1) at (r .read-input .ensures), r .read-input .kept)
-
-slice-aggregate-print-listing : tie.Need-slice-aggregate-print-listing
-slice-aggregate-print-listing c = sym (length-take-le _ _ (array-share-prefix-buffer (c .before)))
-
-print-listing-requires : tie.Need-print-listing-requires
-print-listing-requires c κs = search needs
-
-enum-told : tie.Need-enum-told
-enum-told c = search needs
+put-printed-requires : tie.Need-put-printed-requires
+put-printed-requires c κs =
+    let r = c .before .before .before .read-input in
+    whole-length (r .result) (length {A = ℕ} (replicate 65537 0)) (length (r .last .0)) (r .ensures) (omega (arith, r .kept))
 
 slice-aggregate-write-all : tie.Need-slice-aggregate-write-all
 slice-aggregate-write-all c = search needs
@@ -38,8 +33,28 @@ write-all-requires c κs = search needs
 returns : tie.Need-returns
 returns c = search needs
 
+array-share-prefix-out : tie.Need-array-share-prefix-out
+array-share-prefix-out c =
+    let p = c .before .put-printed .ensures in
+    omega (arith, printed-length p ∙ length-replicate {A = ℕ} room 0, p .within)
+
+slice-aggregate-write-all-2 : tie.Need-slice-aggregate-write-all-2
+slice-aggregate-write-all-2 c = sym (length-take-le _ _ (array-share-prefix-out (c .before)))
+
+write-all-requires-2 : tie.Need-write-all-requires-2
+write-all-requires-2 c κs = search needs
+
 returns-2 : tie.Need-returns-2
 returns-2 c = search needs
+
+slice-aggregate-write-all-3 : tie.Need-slice-aggregate-write-all-3
+slice-aggregate-write-all-3 c = search needs
+
+write-all-requires-3 : tie.Need-write-all-requires-3
+write-all-requires-3 c κs = search needs
+
+returns-3 : tie.Need-returns-3
+returns-3 c = search needs
 
 pub main-spec : {M : Type 1} → statement M
 main-spec =
@@ -47,12 +62,15 @@ main-spec =
     (tie.spec
     slice-aggregate-read-input
     read-input-requires
-    enum-known-input
-    array-share-prefix-buffer
-    slice-aggregate-print-listing
-    print-listing-requires
-    enum-told
+    slice-aggregate-put-printed
+    put-printed-requires
     slice-aggregate-write-all
     write-all-requires
     returns
-    returns-2)
+    array-share-prefix-out
+    slice-aggregate-write-all-2
+    write-all-requires-2
+    returns-2
+    slice-aggregate-write-all-3
+    write-all-requires-3
+    returns-3)
