@@ -4,7 +4,7 @@ use Prim.Native.Nat.{ℕ}
 use mathlib.Core.List.{List}
 use lib.ListN.{length, take}
 use Rattle.rules.specs.declared.Written.{Written}
-use Rattle.rules.specs.Verdict.{verdict}
+use Rattle.rules.specs.Verdict.{Accepted, verdict}
 use Rattle.rules.specs.Command.{commandVerdict}
 use Rattle.rules.specs.Meaning.{meaningOf}
 use Rattle.rules.specs.Canonical.{canonical, canonicalOutput}
@@ -14,6 +14,6 @@ use Rattle.rules.specs.Canonical.{canonical, canonicalOutput}
 pub record IsCanonical (s out : List ℕ) (w : Written) (after : List ℕ) : Type 0 where
   pub answer : w ≡ canonical s out
   pub left : after ≡ canonicalOutput s out
-  pub accepted : w .verdict .number ≡ 0 → commandVerdict (take (w .length) after) ≡ verdict 0 0 0 0
-  pub means : w .verdict .number ≡ 0 → meaningOf (take (w .length) after) ≡ meaningOf s
-  pub long : w .verdict .number ≡ 0 → w .length ≡ length s
+  pub accepted : Accepted (w .verdict) → commandVerdict (take (w .length) after) ≡ verdict 0 0 0 0
+  pub means : Accepted (w .verdict) → meaningOf (take (w .length) after) ≡ meaningOf s
+  pub long : Accepted (w .verdict) → w .length ≡ length s

@@ -12,7 +12,7 @@ use lib.Seq.{take-append-seam, drop-append-seam, drop-drop}
 use Rattle.rules.specs.Octets.{numberAt}
 use Rattle.rules.specs.Header.{headerSize}
 use Rattle.rules.specs.Command.{commandVerdict}
-use Rattle.rules.specs.Book.{commandLine, cutLine, endLine, lengthOf, isCut, commandIn, acceptance, linesFrom, Entered, AllEntered, CutOff, endToEnd, commandLines, acceptedOf}
+use Rattle.rules.specs.Book.{commandLine, cutLine, endLine, lengthOf, isCut, commandIn, acceptance, linesFrom, BookCommand, AllBookCommands, CutOff, joined, commandLines, acceptedOf}
 use Rattle.rules.proofs.Octets.{numberAt-part}
 use Rattle.rules.proofs.Tests.{or-right}
 use Rattle.rules.proofs.Walk.{by-cases}
@@ -37,7 +37,7 @@ module _ (s : List ℕ) (at : ℕ) (c left : List ℕ) (here : drop at s ≡ c +
   pub behind-is : drop (at + length c) s ≡ left
   behind-is = sym (drop-drop (length c) at s) ∙ ap (drop (length c)) here ∙ drop-append-seam c left
 
-  module _ (e : Entered c) where
+  module _ (e : BookCommand c) where
     long-here : lengthOf s at ≡ length c
     long-here = let enough = e .enough in field-here (omega arith) ∙ e .field-is
 
@@ -73,9 +73,9 @@ module _ (s : List ℕ) (at : ℕ) (c left : List ℕ) (here : drop at s ≡ c +
 
 module _ (s left : List ℕ) where
   -- their lines, and then those from behind them on
-  pub lines-of : (cs : List (List ℕ)) → AllEntered cs → (n m at commands accepted at′ commands′ accepted′ : ℕ)
-      → drop at s ≡ endToEnd cs ++ left → at ≤ length s → length s - at < n → length s - at′ < m
-      → at′ ≡ at + length (endToEnd cs) → commands′ ≡ commands + length cs → accepted′ ≡ accepted + acceptedOf cs
+  pub lines-of : (cs : List (List ℕ)) → AllBookCommands cs → (n m at commands accepted at′ commands′ accepted′ : ℕ)
+      → drop at s ≡ joined cs ++ left → at ≤ length s → length s - at < n → length s - at′ < m
+      → at′ ≡ at + length (joined cs) → commands′ ≡ commands + length cs → accepted′ ≡ accepted + acceptedOf cs
       → linesFrom n s at commands accepted ≡ commandLines (commands + 1) at cs ++ linesFrom m s at′ commands′ accepted′
   lines-of [] e n m at commands accepted at′ commands′ accepted′ here in-book h k p q r =
       let p′ : at′ ≡ at = omega arith in
@@ -86,16 +86,16 @@ module _ (s left : List ℕ) where
   lines-of (c ∷ cs) e (suc n) m at commands accepted at′ commands′ accepted′ here in-book h k p q r =
       let f = e .0 in
       let enough = f .enough in
-      let here′ : drop at s ≡ c ++ (endToEnd cs ++ left) = here ∙ append-assoc c (endToEnd cs) left in
-      let l = left-long s at c (endToEnd cs ++ left) here′ in-book in
-      let long = length-append c (endToEnd cs) in
+      let here′ : drop at s ≡ c ++ (joined cs ++ left) = here ∙ append-assoc c (joined cs) left in
+      let l = left-long s at c (joined cs ++ left) here′ in-book in
+      let long = length-append c (joined cs) in
       let more : length (c ∷ cs) ≡ suc (length cs) = refl in
       let count : acceptedOf (c ∷ cs) ≡ acceptance (commandVerdict c) + acceptedOf cs = refl in
       let rest =
       lines-of cs (e .1) n m (at + length c) (commands + 1) (accepted + acceptance (commandVerdict c)) at′ commands′
-      accepted′ (behind-is s at c (endToEnd cs ++ left) here′ in-book) (omega arith) (omega arith) k (omega arith)
+      accepted′ (behind-is s at c (joined cs ++ left) here′ in-book) (omega arith) (omega arith) k (omega arith)
       (omega arith) (omega arith) in
-      command-line s at c (endToEnd cs ++ left) here′ in-book f n commands accepted
+      command-line s at c (joined cs ++ left) here′ in-book f n commands accepted
       ∙ ap (λ (t : List ℕ). commandLine (commands + 1) at (commandVerdict c) ++ t) rest
       ∙ sym (append-assoc (commandLine (commands + 1) at (commandVerdict c)) _ _)
 

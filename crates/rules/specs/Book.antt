@@ -38,7 +38,7 @@ spaced (n ∷ ns) = space ∷ decimal n ++ spaced ns
 abbrev pub headLine : List ℕ
 headLine = text "NTB 1\n"
 
--- the words of the last line
+-- the word of the last line, and that of a cut
 abbrev pub endWord : List ℕ
 endWord = text "end"
 
@@ -108,13 +108,13 @@ listing s = cond (isBook s) (headLine ++ linesFrom (length s) s bookHead 0 0) no
 -- ---- what is claimed of a listing (proofs/demands/Listings)
 
 -- a command as a book holds it: at least 20 octets, and as long as its length field says
-pub record Entered (c : List ℕ) : Type 0 where
+pub record BookCommand (c : List ℕ) : Type 0 where
   pub enough : headerSize ≤ length c
   pub field-is : lengthOf c 0 ≡ length c
 
-abbrev pub AllEntered : List (List ℕ) → Type 0
-AllEntered [] = Unit {0}
-AllEntered (c ∷ cs) = Entered c × AllEntered cs
+abbrev pub AllBookCommands : List (List ℕ) → Type 0
+AllBookCommands [] = Unit {0}
+AllBookCommands (c ∷ cs) = BookCommand c × AllBookCommands cs
 
 -- octets that are no command: one to three, a length under 20, or one past the end
 pub record CutOff (left : List ℕ) : Type 0 where
@@ -122,21 +122,21 @@ pub record CutOff (left : List ℕ) : Type 0 where
   pub no-command : (length left < 4) ⊎ ((lengthOf left 0 < headerSize) ⊎ (length left < lengthOf left 0))
 
 -- commands end to end
-abbrev pub endToEnd : List (List ℕ) → List ℕ
-endToEnd [] = []
-endToEnd (c ∷ cs) = c ++ endToEnd cs
+abbrev pub joined : List (List ℕ) → List ℕ
+joined [] = []
+joined (c ∷ cs) = c ++ joined cs
 
 -- the letters NTB, the version 1, commands, and what is left behind them
 abbrev pub bookOf : List (List ℕ) → List ℕ → List ℕ
-bookOf cs left = 0x4e ∷ 0x54 ∷ 0x42 ∷ 0x00 ∷ 0x01 ∷ endToEnd cs ++ left
+bookOf cs left = 0x4e ∷ 0x54 ∷ 0x42 ∷ 0x00 ∷ 0x01 ∷ joined cs ++ left
 
 -- octets behind a head as commands and what is left: nothing, or octets that are no command
 pub record Parted (xs : List ℕ) : Type 0 where
   pub commands : List (List ℕ)
   pub left : List ℕ
-  pub entered : AllEntered commands
+  pub entered : AllBookCommands commands
   pub last : (left ≡ []) ⊎ CutOff left
-  pub all : xs ≡ endToEnd commands ++ left
+  pub all : xs ≡ joined commands ++ left
 
 -- no book: a head that is short or wrong, or more than 65,536 octets
 abbrev pub NoBook : List ℕ → Type 0
@@ -150,7 +150,7 @@ commandLines ordinal offset [] = []
 commandLines ordinal offset (c ∷ cs) =
     commandLine ordinal offset (commandVerdict c) ++ commandLines (ordinal + 1) (offset + length c) cs
 
--- how many of them are accepted
+-- how many of them are accepted, counted apart from the listing's own `acceptance`
 abbrev pub acceptedOf : List (List ℕ) → ℕ
 acceptedOf [] = 0
 acceptedOf (c ∷ cs) = cond (isAccepted (commandVerdict c)) 1 0 + acceptedOf cs

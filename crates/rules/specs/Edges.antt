@@ -165,10 +165,10 @@ bookListing = text "NTB 1\n1 5 5005 20 0 263\nend 1 0\n"
 -- a book and the listing that it has
 pub record BookCase : Type 0 where
   pub octets : List ℕ
-  pub printed : List ℕ
+  pub expected : List ℕ
 
 unfoldable pub bookCase : List ℕ → String → BookCase
-bookCase octets printed = record { octets = octets; printed = text printed }
+bookCase octets expected = record { octets = octets; expected = text expected }
 
 -- further books
 unfoldable pub furtherBooks : List BookCase
@@ -192,16 +192,16 @@ furtherBooks =
     ∷ []
 
 -- the listings that books have, and those that the definitions give
-unfoldable pub printed : List BookCase → List (List ℕ)
-printed bs = map (λ b. b .printed) bs
+unfoldable pub expected : List BookCase → List (List ℕ)
+expected bs = map (λ b. b .expected) bs
 
 unfoldable pub listings : List BookCase → List (List ℕ)
 listings bs = map (λ b. listing (b .octets)) bs
 
 -- all of it, computed
 computed : (verdicts cases ≡ answers cases) × (verdicts further ≡ answers further) × (listing book ≡ bookListing)
-    × (listings furtherBooks ≡ printed furtherBooks)
-unfolding headOfBook bookCase furtherBooks printed listings verdicts answers cases case header h avp avpOf3GPP sBegins vendorId sGoesOn sEnds sFront s further firstRequestTo answerBegins book bookListing octets numberAt padded lengthOutcome applicationOutcome flagsOutcome headerOutcome avpAt rowsOf admitsOthers dictionary find framing wrongFlags unsupported wrongWidth wrongValue tooDeep contents checked walkAvp walkList admissionFrom memberOutcome missingFrom membersOutcome membersAt groupsOutcome rowsOutcome firstFrom volume firstRequest laterRequest requestOutcome resultOutcome policiesOutcome policyOutcome eachPolicy answerOutcome windowOutcome eachWindow exchangeOutcome walkOf listsOutcome commandOutcome commandVerdict digits isCut linesFrom isBook listing
+    × (listings furtherBooks ≡ expected furtherBooks)
+unfolding headOfBook bookCase furtherBooks expected listings verdicts answers cases case header h avp avpOf3GPP sBegins vendorId sGoesOn sEnds sFront s further firstRequestTo answerBegins book bookListing octets numberAt padded lengthOutcome applicationOutcome flagsOutcome headerOutcome avpAt rowsOf admitsOthers dictionary find framing wrongFlags unsupported wrongWidth wrongValue tooDeep contents checked walkAvp walkList admissionFrom memberOutcome missingFrom membersOutcome membersAt groupsOutcome rowsOutcome firstFrom volume firstRequest laterRequest requestOutcome resultOutcome policiesOutcome policyOutcome eachPolicy answerOutcome windowOutcome eachWindow exchangeOutcome walkOf listsOutcome commandOutcome commandVerdict digits isCut linesFrom isBook listing
 computed = (refl, refl, refl, refl)
 
 -- each marked case has its answer
@@ -217,5 +217,5 @@ pub worked-book : listing book ≡ bookListing
 worked-book = computed .2
 
 -- and each further book
-pub further-books : listings furtherBooks ≡ printed furtherBooks
+pub further-books : listings furtherBooks ≡ expected furtherBooks
 further-books = computed .3

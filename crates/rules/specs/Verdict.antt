@@ -57,7 +57,7 @@ isAccepted v = eqb (v .number) 0
 abbrev pub Accepted : Verdict → Type 0
 Accepted v = v .number ≡ 0
 
--- accepted: number, place, vendor and code 0
+-- the verdict of an outcome; accepted: number, place, vendor and code 0
 abbrev pub verdictOf : Outcome → Verdict
 verdictOf Pass = verdict 0 0 0 0
 verdictOf (Refused v) = v

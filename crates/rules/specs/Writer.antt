@@ -37,7 +37,7 @@ octetsBy (Refused v) s = []
 unfoldable pub octetsWritten : Draft → ℕ → List ℕ
 octetsWritten d room = octetsBy (draftOutcome d room) (draftOctets d)
 
--- what a call answers that wrote these octets: the verdict and their number, 0 with a refusal
+-- what a call answers that wrote these octets: the verdict and their number
 abbrev pub answerBy : Outcome → List ℕ → Written
 answerBy o xs = record { verdict = verdictOf o; length = length xs }
 
@@ -45,7 +45,7 @@ answerBy o xs = record { verdict = verdictOf o; length = length xs }
 abbrev pub writtenOver : List ℕ → List ℕ → List ℕ
 writtenOver xs out = xs ++ drop (length xs) out
 
--- the answer of a call
+-- the answer of a call: the verdict, and the written length, 0 with a refusal
 unfoldable pub writing : Draft → List ℕ → Written
 writing d out = answerBy (draftOutcome d (length out)) (octetsWritten d (length out))
 

@@ -12,7 +12,7 @@ use lib.ListN.{length, take, drop, length-append, length-drop, take-append-drop}
 use lib.Seq.{length-take-le}
 use Rattle.rules.specs.Octets.{AreOctets, numberAt}
 use Rattle.rules.specs.Header.{headerSize}
-use Rattle.rules.specs.Book.{headLine, cutLine, endLine, lengthOf, bookHead, longestBook, isBook, listing, notABook, Entered, AllEntered, CutOff, endToEnd, bookOf, Parted, NoBook, commandLines, acceptedOf}
+use Rattle.rules.specs.Book.{headLine, cutLine, endLine, lengthOf, bookHead, longestBook, isBook, listing, notABook, BookCommand, AllBookCommands, CutOff, joined, bookOf, Parted, NoBook, commandLines, acceptedOf}
 use Rattle.rules.proofs.Octets.{numberAt-in, numberAt-part, numberAt-digits}
 use Rattle.rules.proofs.Tests.{and-true}
 use Rattle.rules.proofs.Walk.{by-cases}
@@ -32,7 +32,7 @@ book-is xs h =
       numberAt-in 2 s 3 (omega arith),
     )
 
-module _ (cs : List (List ℕ)) (e : AllEntered cs) where
+module _ (cs : List (List ℕ)) (e : AllBookCommands cs) where
   -- "It prints `NTB 1`; per command ordinal (from 1), offset in the book, number, place, vendor, code; then `end` with
   -- commands and acceptances. It cuts by the length field alone."
   -- Carried by lines-of and last-line.
@@ -42,13 +42,13 @@ module _ (cs : List (List ℕ)) (e : AllEntered cs) where
       → listing (bookOf cs []) ≡ headLine ++ (commandLines 1 bookHead cs ++ endLine (length cs) (acceptedOf cs))
   listing-whole h =
       let s = bookOf cs [] in
-      let nil = ap length (append-nil (endToEnd cs)) in
-      listing-steps s (length s) (book-is (endToEnd cs ++ []) (omega arith)) (omega arith)
+      let nil = ap length (append-nil (joined cs)) in
+      listing-steps s (length s) (book-is (joined cs ++ []) (omega arith)) (omega arith)
       ∙ ap (λ (t : List ℕ). headLine ++ t)
-      (lines-of s [] cs e (length s) 1 bookHead 0 0 (bookHead + length (endToEnd cs)) (length cs) (acceptedOf cs) refl
+      (lines-of s [] cs e (length s) 1 bookHead 0 0 (bookHead + length (joined cs)) (length cs) (acceptedOf cs) refl
       (omega arith) (omega arith) (omega arith) refl (omega arith) (omega arith)
       ∙ ap (λ (t : List ℕ). commandLines 1 bookHead cs ++ t)
-      (last-line s [] 0 (bookHead + length (endToEnd cs)) (length cs) (acceptedOf cs) (omega arith)))
+      (last-line s [] 0 (bookHead + length (joined cs)) (length cs) (acceptedOf cs) (omega arith)))
 
   -- "With one to three octets left, a length under 20 or one past the end, it prints ordinal, offset and `cut`, and no
   -- `end`."
@@ -57,17 +57,17 @@ module _ (cs : List (List ℕ)) (e : AllEntered cs) where
   -- before.
   pub listing-cut : (left : List ℕ) → CutOff left → length (bookOf cs left) ≤ longestBook
       → listing (bookOf cs left)
-      ≡ headLine ++ (commandLines 1 bookHead cs ++ cutLine (length cs + 1) (bookHead + length (endToEnd cs)))
+      ≡ headLine ++ (commandLines 1 bookHead cs ++ cutLine (length cs + 1) (bookHead + length (joined cs)))
   listing-cut left k h =
       let s = bookOf cs left in
-      let long = length-append (endToEnd cs) left in
-      let at′ = bookHead + length (endToEnd cs) in
-      listing-steps s (length s) (book-is (endToEnd cs ++ left) (omega arith)) (omega arith)
+      let long = length-append (joined cs) left in
+      let at′ = bookHead + length (joined cs) in
+      listing-steps s (length s) (book-is (joined cs ++ left) (omega arith)) (omega arith)
       ∙ ap (λ (t : List ℕ). headLine ++ t)
       (lines-of s left cs e (length s) (suc (length s)) bookHead 0 0 at′ (length cs) (acceptedOf cs) refl (omega arith)
       (omega arith) (omega arith) refl (omega arith) (omega arith)
       ∙ ap (λ (t : List ℕ). commandLines 1 bookHead cs ++ t)
-      (cut-line s left at′ (behind-is s bookHead (endToEnd cs) left refl (omega arith)) (omega arith) k (length s)
+      (cut-line s left at′ (behind-is s bookHead (joined cs) left refl (omega arith)) (omega arith) k (length s)
       (length cs) (acceptedOf cs)))
 
 -- ---- every book, and every other octets
@@ -91,7 +91,7 @@ module _ (xs : List ℕ) (some : 1 ≤ length xs) where
     size-is : length (take size xs) ≡ size
     size-is = length-take-le size xs within
 
-    first-entered : Entered (take size xs)
+    first-entered : BookCommand (take size xs)
     first-entered =
         let l = size-is in
         record {
@@ -109,7 +109,7 @@ module _ (xs : List ℕ) (some : 1 ≤ length xs) where
           all =
               sym (take-append-drop size xs)
               ∙ ap (λ (l : List ℕ). take size xs ++ l) (r .all)
-              ∙ sym (append-assoc (take size xs) (endToEnd (r .commands)) (r .left));
+              ∙ sym (append-assoc (take size xs) (joined (r .commands)) (r .left));
         }
 
 none-parted : Parted []
