@@ -363,11 +363,17 @@ def environment(folder):
         {"SHELLOPTS": "noexec"}, {"SHELLOPTS": "errexit:noglob:nounset:posix:verbose"}, {"BASH_ENV": startup},
         {"ENV": startup}, {"POSIXLY_CORRECT": "1"}, {"IFS": "0123456789/abcdefghijklmnopqrstuvwxyz"}, {"CDPATH": "/"},
         {"BASHOPTS": "failglob:expand_aliases:nocasematch"}, {"GLOBIGNORE": "*"}, {"LC_ALL": "C.UTF-8"},
+        *({"FUNCNEST": str(depth)} for depth in range(1, 8)), {"BASH_COMPAT": "31"},
         functions("exit 0", "cat", "exec", "exit", "printf", "set", "unset", "trap", "wait", "type", "local", "["),
         functions("true", "rm", "tail", "read", "mktemp", "sha256sum", "find", "give_up", "judge"),
     ]
     for env in environments:
-        expect_sample("an environment with " + ", ".join(env), door.list(env=env))
+        expect_sample("an environment with " + ", ".join(f"{name}={env[name]}" for name in env), door.list(env=env))
+    other = Imitation(folder / "other-checkout")
+    script(other.program, "printf 'NTB 1\\nend 0 0\\n'")
+    other.vouch()
+    for name in ("BASH_SOURCE", "BASH_ARGV0", "0"):
+        expect_sample(f"another checkout in {name}", door.list(env={name: str(other.door)}))
     door.program.unlink()
     door.rt(f"env >target/environment\n{proves()}")
     built("a build in a strange environment", door, env={**environments[0], **environments[-1], "STRANGE": "1"})
@@ -390,6 +396,8 @@ def shells(folder):
     status, output, _ = run(["bash", door.door, book], env={**door.path, "SHELLOPTS": "noexec"})
     check("front door, called by bash under noexec", "another status than 0", status != 0, True)
     check("front door, called by bash under noexec", "output", output, b"")
+    env = {"PATH": f"{door.place}:{door.path['PATH']}"}
+    refused("found on the path by bash", run(["bash", "verdicts", book], env=env, cwd=folder), "call it by its path")
     (door.place / "link").symlink_to(door.door)
     expect_sample("called by a link", run([door.place / "link", book], env=door.path))
 
