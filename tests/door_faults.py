@@ -240,6 +240,12 @@ def signals(folder):
         check("front door, " + name, "what is left in the temporary folder", os.listdir(door.place / "tmp"), [])
     door.rt(proves())
     built("a build after one that a signal ended", door)
+    os.mkfifo(folder / "fifo")
+    started = subprocess.Popen([door.door, folder / "fifo"], stderr=subprocess.PIPE, env={**os.environ, **door.path})
+    wait_for(lambda: catches(started.pid, signal.SIGTERM))
+    started.send_signal(signal.SIGTERM)
+    _, messages = started.communicate(timeout=HANGING)
+    expect_words("SIGTERM while a book has no writer yet", messages, "ended by SIGTERM")
     removing = Imitation(folder / "removing")
     script(removing.place / "path/rm", f"case $* in *record*) : >'{removing.place}/started'; sleep 1 ;; esac\n"
            f"exec '{shutil.which('rm')}' \"$@\"")
@@ -265,6 +271,12 @@ def is_running(process):
         return pathlib.Path(f"/proc/{process}/stat").read_text().rpartition(")")[2].split()[0] != "Z"
     except FileNotFoundError:
         return False
+
+
+def catches(process, number):
+    """Whether the process has a handler for this signal."""
+    status = pathlib.Path(f"/proc/{process}/status").read_text()
+    return int(status.partition("SigCgt:")[2].split()[0], 16) >> (number - 1) & 1 == 1
 
 
 def wait_for(condition):
@@ -427,6 +439,19 @@ def arguments(folder):
     refused("a script without its checkout", run([alone / "verdicts", "-"], book=SAMPLE), "whole checkout")
 
 
+def numbered_books(folder):
+    """A book as /dev/fd/N, whatever numbers the script uses itself; and a number that is not open."""
+    book = folder / "numbered.ntb"
+    book.write_bytes(SAMPLE)
+    for number in (0, 2, 3, 4, 5, 9, 10, 11, 63):
+        opened = ["bash", "-c", f'exec "$0" /dev/fd/{number} {number}<"$1"', DOOR, book]
+        expect_sample(f"a book as /dev/fd/{number}", run(opened))
+    for number in (3, 4, 5, 9, 10, 11, 12, 63):
+        unopened = ["bash", "-c", f'exec "$0" /dev/fd/{number} 2<>"$1"', DOOR, book]
+        expect(f"front door, /dev/fd/{number}, which is not open", run(unopened), FAILED, b"")
+        book.write_bytes(SAMPLE)
+
+
 def version(folder):
     door = Imitation(folder / "version", PROGRAM)
     proved = f"kit {KIT}, program {sha256(PROGRAM.read_bytes())}"
@@ -480,4 +505,5 @@ def try_all(folder):
     shells(folder)
     no_listing_file(folder)
     arguments(folder)
+    numbered_books(folder)
     version(folder)
