@@ -114,6 +114,20 @@ def other_programs(folder):
     check("front door, a program and a stamp without a record", "checks asked for", door.asked(), 1)
 
 
+def exchanged_while_listing(folder):
+    """Between its compare and the end of the listing: the program lists, and puts another in its own place."""
+    door = Imitation(folder / "swapped")
+    new, kept = door.place / "new", door.place / "kept"
+    shutil.copy(PROGRAM, kept)
+    for name, change in (("the program is exchanged", f"cp '{kept}' '{new}'; mv '{new}' '{door.program}'"),
+                         ("the sources are edited", f"echo >>'{door.source}'"),
+                         ("the record is removed", f"rm '{door.record}'")):
+        script(door.program, f"{change}\nexec '{kept}'")
+        door.vouch()
+        refused(name + " while the book is listed", door.list(), "changed while the book was listed")
+    check("front door, an exchange while the book is listed", "checks asked for", door.asked(), 0)
+
+
 def exchange(door, content):
     """The program's content, and no time that would tell."""
     times = door.program.stat()
@@ -493,6 +507,7 @@ def try_all(folder):
     first_use(folder)
     incomplete_checks(folder)
     other_programs(folder)
+    exchanged_while_listing(folder)
     other_origins(folder)
     libraries(folder)
     pieces_after_build(folder)
