@@ -18,6 +18,7 @@ from fault_tools import (COMPLETE, DOOR, FAILED, HANGING, Imitation, KIT, NOT_BU
 
 STAMP = "3" * 64
 OK = "echo 'rt: ok, 2 crates proved'"
+SOURCE = "crates/book/src/lib.rt"
 OWN_TOOLS = "basename cat dirname env find grep mktemp readlink rm rt sha256sum sort tail uname xargs".split()
 GIT_IDENTITY = ["-c", "user.name=test", "-c", "user.email=test"]
 BUILD_TOOLS = "awk chmod chown cmp cp cut date flock head id ls mkdir mv nproc sed sleep timeout tr wc".split()
@@ -76,7 +77,14 @@ def incomplete_checks(folder):
         ("cannot write its logs", f"[ \"$(cat target/log/book.res)\" = proved ] || exit 1\n{proves()}", "not proved"),
         ("has its sources edited", f"{proves()}; echo edited >>crates/book/src/lib.rt", "changed during the check"),
         ("has its list of crates edited", f"{proves()}; echo >>crates.txt", "changed during the check"),
-        # The stand-in for timeout, with which a new program is tried, exchanges it.
+        ("has its sources edited and put back with their times",
+         f"cp -p {SOURCE} target/kept; echo edited >{SOURCE}; {proves()}; cp -p target/kept {SOURCE}",
+         "sources changed during the check"),
+        ("has a file among its sources for a while", f"echo >crates/more.rt; {proves()}; rm crates/more.rt",
+         "sources changed during the check"),
+        # The stand-in for sort, with which sources are hashed, exchanges the program before the trial of it.
+        ("has its program exchanged at once", f"{proves()}; cp path/exchange path/sort", "changed after the check"),
+        # The stand-in for timeout, with which a new program is tried, exchanges it once.
         ("has its program exchanged", f"{proves()}; cp path/exchange path/timeout", "changed after the check"),
         ("leaves no room for the record", f"{proves()}; mkdir target/door/record.new", "record cannot be written"),
         ("leaves no room for hashes", f"{proves()}; mkdir target/door/libraries.new", "libraries cannot be written"),
@@ -85,11 +93,11 @@ def incomplete_checks(folder):
         door = Imitation(folder / f"incomplete{number}", PROGRAM)
         (door.place / "target/log/book.res").write_text("proved\n")
         door.source.write_text("changed\n")
-        script(door.place / "path/exchange", f"echo >>'{door.program}'; shift 2; exec \"$@\"")
+        script(door.place / "path/exchange", f"rm \"$0\"; echo >>'{door.program}'\n"
+               f"exec '{os.path.dirname(shutil.which('sort'))}'/${{0##*/}} \"$@\"")
         door.rt(rt)
         refused(f"rt passes and {name}", door.list(), words)
         door.rt("exit 1")
-        (door.place / "path/timeout").unlink(missing_ok=True)
         refused(f"rt passes and {name}: a second start", door.list())
 
 
@@ -232,6 +240,43 @@ def pieces_after_build(folder):
         refused(f"a new program that is {name}", door.list(), "in pieces")
 
 
+def failing_read_after_build(folder):
+    """A program that takes a failed read for the end of its input is refused."""
+    door = Imitation(folder / "failing-read")
+    script(door.place / "new", f"cat 2>/dev/null | '{PROGRAM}'")
+    door.rt(proves(door.place / "new"))
+    name = "a program that lists a failed read"
+    refused(name, door.list(), "input cannot be read", str(door.log))
+    check("front door, " + name, "the program is removed", door.program.exists(), False)
+
+
+def children_of_rt(folder):
+    """A child that rt leaves, passing or killed, is ended with it, and does not hold the lock."""
+    leaves = "sleep 1000 & echo $! >target/left"
+    for name, rt, status in (("passes", proves(), COMPLETE), ("is killed", "kill -KILL $$", NOT_BUILT)):
+        door = Imitation(folder / ("left-by-rt-that-" + name.replace(" ", "-")))
+        door.rt(f"{leaves}\n{rt}")
+        got, _, _ = door.list()
+        check(f"front door, rt leaves a child and {name}", "status", got, status)
+        left = (door.place / "target/left").read_text().strip()
+        ended = ends(left)
+        check(f"front door, rt leaves a child and {name}", "the child is ended", ended, True)
+        if not ended:
+            os.kill(int(left), signal.SIGKILL)
+        door.rt(proves())
+        door.program.unlink(missing_ok=True)
+        messages = built(f"a build after rt that {name} and left a child", door)
+        check(f"front door, a build after rt that {name}", "waiting for the lock", b"waiting" in messages, False)
+
+
+def ends(process):
+    """Within two seconds: what was sent SIGKILL may take a moment."""
+    until = time.monotonic() + 2
+    while is_running(process) and time.monotonic() < until:
+        time.sleep(0.01)
+    return not is_running(process)
+
+
 def signals(folder):
     """During the build: nothing is left running, a line is said, and the status is the signal's."""
     for number in (signal.SIGTERM, signal.SIGINT, signal.SIGHUP, signal.SIGQUIT):
@@ -319,17 +364,27 @@ def standing_reader(folder):
 
 
 def two_at_once(folder):
-    door = Imitation(folder / "twice")
-    door.rt(f"sleep 0.5\n{proves()}")
-    results = []
-    starts = [threading.Thread(target=lambda: results.append(door.list())) for _ in range(2)]
-    for start in starts:
-        start.start()
-    for start in starts:
-        start.join()
-    for result in results:
-        expect("front door, two first uses at once", result, COMPLETE, SAMPLE_LISTING, SAMPLE_LISTING)
-    check("front door, two first uses at once", "checks asked for", door.asked(), 1)
+    """The check lasts until the second start waits (or for ten seconds, where it does not). What is in target/ may be
+    removed meanwhile."""
+    for name, meanwhile in (("two first uses at once", ":"), ("a lock file that is removed", "rm -f target/door/lock")):
+        door = Imitation(folder / ("twice-" + name.replace(" ", "-")))
+        said = door.place / "said"
+        said.write_text("")
+        waits = f"n=0; until grep -q waiting '{said}' || [ $n = 100 ]; do sleep 0.1; n=$((n + 1)); done"
+        door.rt(f"{meanwhile}\n: >target/started\n{waits}\n{proves()}")
+        results = []
+        first = threading.Thread(target=lambda: results.append(door.list()))
+        first.start()
+        wait_for(lambda: (door.place / "target/started").exists())
+        with open(said, "wb") as messages:
+            second = subprocess.run([door.door, ROOT / "books/sample.ntb"], stdout=subprocess.PIPE, stderr=messages,
+                                    env={**os.environ, **door.path}, timeout=HANGING)
+        first.join()
+        results.append((second.returncode, second.stdout, said.read_bytes()))
+        for result in results:
+            expect("front door, " + name, result, COMPLETE, SAMPLE_LISTING, SAMPLE_LISTING)
+        expect_words(name, said.read_bytes(), "another start is building the program: waiting")
+        check("front door, " + name, "checks asked for", door.asked(), 1)
 
 
 def read_only(folder):
@@ -511,6 +566,8 @@ def try_all(folder):
     other_origins(folder)
     libraries(folder)
     pieces_after_build(folder)
+    failing_read_after_build(folder)
+    children_of_rt(folder)
     signals(folder)
     standing_reader(folder)
     two_at_once(folder)
