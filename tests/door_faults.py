@@ -18,6 +18,7 @@ from fault_tools import (COMPLETE, DOOR, FAILED, HANGING, Imitation, KIT, NOT_BU
 
 STAMP = "3" * 64
 OK = "echo 'rt: ok, 2 crates proved'"
+SOURCE = "crates/book/src/lib.rt"
 OWN_TOOLS = "basename cat dirname env find grep mktemp readlink rm rt sha256sum sort tail uname xargs".split()
 GIT_IDENTITY = ["-c", "user.name=test", "-c", "user.email=test"]
 BUILD_TOOLS = "awk chmod chown cmp cp cut date flock head id ls mkdir mv nproc sed sleep timeout tr wc".split()
@@ -76,7 +77,14 @@ def incomplete_checks(folder):
         ("cannot write its logs", f"[ \"$(cat target/log/book.res)\" = proved ] || exit 1\n{proves()}", "not proved"),
         ("has its sources edited", f"{proves()}; echo edited >>crates/book/src/lib.rt", "changed during the check"),
         ("has its list of crates edited", f"{proves()}; echo >>crates.txt", "changed during the check"),
-        # The stand-in for timeout, with which a new program is tried, exchanges it.
+        ("has its sources edited and put back with their times",
+         f"cp -p {SOURCE} target/kept; echo edited >{SOURCE}; {proves()}; cp -p target/kept {SOURCE}",
+         "sources changed during the check"),
+        ("has a file among its sources for a while", f"echo >crates/more.rt; {proves()}; rm crates/more.rt",
+         "sources changed during the check"),
+        # The stand-in for sort, with which sources are hashed, exchanges the program before the trial of it.
+        ("has its program exchanged at once", f"{proves()}; cp path/exchange path/sort", "changed after the check"),
+        # The stand-in for timeout, with which a new program is tried, exchanges it once.
         ("has its program exchanged", f"{proves()}; cp path/exchange path/timeout", "changed after the check"),
         ("leaves no room for the record", f"{proves()}; mkdir target/door/record.new", "record cannot be written"),
         ("leaves no room for hashes", f"{proves()}; mkdir target/door/libraries.new", "libraries cannot be written"),
@@ -85,11 +93,11 @@ def incomplete_checks(folder):
         door = Imitation(folder / f"incomplete{number}", PROGRAM)
         (door.place / "target/log/book.res").write_text("proved\n")
         door.source.write_text("changed\n")
-        script(door.place / "path/exchange", f"echo >>'{door.program}'; shift 2; exec \"$@\"")
+        script(door.place / "path/exchange", f"rm \"$0\"; echo >>'{door.program}'\n"
+               f"exec '{os.path.dirname(shutil.which('sort'))}'/${{0##*/}} \"$@\"")
         door.rt(rt)
         refused(f"rt passes and {name}", door.list(), words)
         door.rt("exit 1")
-        (door.place / "path/timeout").unlink(missing_ok=True)
         refused(f"rt passes and {name}: a second start", door.list())
 
 
@@ -112,6 +120,20 @@ def other_programs(folder):
     door.stamp.write_text(STAMP + "\n")
     refused("a program and a stamp without a record", door.list(), "no check from here")
     check("front door, a program and a stamp without a record", "checks asked for", door.asked(), 1)
+
+
+def exchanged_while_listing(folder):
+    """Between its compare and the end of the listing: the program lists, and puts another in its own place."""
+    door = Imitation(folder / "swapped")
+    new, kept = door.place / "new", door.place / "kept"
+    shutil.copy(PROGRAM, kept)
+    for name, change in (("the program is exchanged", f"cp '{kept}' '{new}'; mv '{new}' '{door.program}'"),
+                         ("the sources are edited", f"echo >>'{door.source}'"),
+                         ("the record is removed", f"rm '{door.record}'")):
+        script(door.program, f"{change}\nexec '{kept}'")
+        door.vouch()
+        refused(name + " while the book is listed", door.list(), "changed while the book was listed")
+    check("front door, an exchange while the book is listed", "checks asked for", door.asked(), 0)
 
 
 def exchange(door, content):
@@ -218,6 +240,43 @@ def pieces_after_build(folder):
         refused(f"a new program that is {name}", door.list(), "in pieces")
 
 
+def failing_read_after_build(folder):
+    """A program that takes a failed read for the end of its input is refused."""
+    door = Imitation(folder / "failing-read")
+    script(door.place / "new", f"cat 2>/dev/null | '{PROGRAM}'")
+    door.rt(proves(door.place / "new"))
+    name = "a program that lists a failed read"
+    refused(name, door.list(), "input cannot be read", str(door.log))
+    check("front door, " + name, "the program is removed", door.program.exists(), False)
+
+
+def children_of_rt(folder):
+    """A child that rt leaves, passing or killed, is ended with it, and does not hold the lock."""
+    leaves = "sleep 1000 & echo $! >target/left"
+    for name, rt, status in (("passes", proves(), COMPLETE), ("is killed", "kill -KILL $$", NOT_BUILT)):
+        door = Imitation(folder / ("left-by-rt-that-" + name.replace(" ", "-")))
+        door.rt(f"{leaves}\n{rt}")
+        got, _, _ = door.list()
+        check(f"front door, rt leaves a child and {name}", "status", got, status)
+        left = (door.place / "target/left").read_text().strip()
+        ended = ends(left)
+        check(f"front door, rt leaves a child and {name}", "the child is ended", ended, True)
+        if not ended:
+            os.kill(int(left), signal.SIGKILL)
+        door.rt(proves())
+        door.program.unlink(missing_ok=True)
+        messages = built(f"a build after rt that {name} and left a child", door)
+        check(f"front door, a build after rt that {name}", "waiting for the lock", b"waiting" in messages, False)
+
+
+def ends(process):
+    """Within two seconds: what was sent SIGKILL may take a moment."""
+    until = time.monotonic() + 2
+    while is_running(process) and time.monotonic() < until:
+        time.sleep(0.01)
+    return not is_running(process)
+
+
 def signals(folder):
     """During the build: nothing is left running, a line is said, and the status is the signal's."""
     for number in (signal.SIGTERM, signal.SIGINT, signal.SIGHUP, signal.SIGQUIT):
@@ -240,6 +299,12 @@ def signals(folder):
         check("front door, " + name, "what is left in the temporary folder", os.listdir(door.place / "tmp"), [])
     door.rt(proves())
     built("a build after one that a signal ended", door)
+    os.mkfifo(folder / "fifo")
+    started = subprocess.Popen([door.door, folder / "fifo"], stderr=subprocess.PIPE, env={**os.environ, **door.path})
+    wait_for(lambda: catches(started.pid, signal.SIGTERM))
+    started.send_signal(signal.SIGTERM)
+    _, messages = started.communicate(timeout=HANGING)
+    expect_words("SIGTERM while a book has no writer yet", messages, "ended by SIGTERM")
     removing = Imitation(folder / "removing")
     script(removing.place / "path/rm", f"case $* in *record*) : >'{removing.place}/started'; sleep 1 ;; esac\n"
            f"exec '{shutil.which('rm')}' \"$@\"")
@@ -265,6 +330,12 @@ def is_running(process):
         return pathlib.Path(f"/proc/{process}/stat").read_text().rpartition(")")[2].split()[0] != "Z"
     except FileNotFoundError:
         return False
+
+
+def catches(process, number):
+    """Whether the process has a handler for this signal."""
+    status = pathlib.Path(f"/proc/{process}/status").read_text()
+    return int(status.partition("SigCgt:")[2].split()[0], 16) >> (number - 1) & 1 == 1
 
 
 def wait_for(condition):
@@ -293,17 +364,27 @@ def standing_reader(folder):
 
 
 def two_at_once(folder):
-    door = Imitation(folder / "twice")
-    door.rt(f"sleep 0.5\n{proves()}")
-    results = []
-    starts = [threading.Thread(target=lambda: results.append(door.list())) for _ in range(2)]
-    for start in starts:
-        start.start()
-    for start in starts:
-        start.join()
-    for result in results:
-        expect("front door, two first uses at once", result, COMPLETE, SAMPLE_LISTING, SAMPLE_LISTING)
-    check("front door, two first uses at once", "checks asked for", door.asked(), 1)
+    """The check lasts until the second start waits (or for ten seconds, where it does not). What is in target/ may be
+    removed meanwhile."""
+    for name, meanwhile in (("two first uses at once", ":"), ("a lock file that is removed", "rm -f target/door/lock")):
+        door = Imitation(folder / ("twice-" + name.replace(" ", "-")))
+        said = door.place / "said"
+        said.write_text("")
+        waits = f"n=0; until grep -q waiting '{said}' || [ $n = 100 ]; do sleep 0.1; n=$((n + 1)); done"
+        door.rt(f"{meanwhile}\n: >target/started\n{waits}\n{proves()}")
+        results = []
+        first = threading.Thread(target=lambda: results.append(door.list()))
+        first.start()
+        wait_for(lambda: (door.place / "target/started").exists())
+        with open(said, "wb") as messages:
+            second = subprocess.run([door.door, ROOT / "books/sample.ntb"], stdout=subprocess.PIPE, stderr=messages,
+                                    env={**os.environ, **door.path}, timeout=HANGING)
+        first.join()
+        results.append((second.returncode, second.stdout, said.read_bytes()))
+        for result in results:
+            expect("front door, " + name, result, COMPLETE, SAMPLE_LISTING, SAMPLE_LISTING)
+        expect_words(name, said.read_bytes(), "another start is building the program: waiting")
+        check("front door, " + name, "checks asked for", door.asked(), 1)
 
 
 def read_only(folder):
@@ -363,11 +444,17 @@ def environment(folder):
         {"SHELLOPTS": "noexec"}, {"SHELLOPTS": "errexit:noglob:nounset:posix:verbose"}, {"BASH_ENV": startup},
         {"ENV": startup}, {"POSIXLY_CORRECT": "1"}, {"IFS": "0123456789/abcdefghijklmnopqrstuvwxyz"}, {"CDPATH": "/"},
         {"BASHOPTS": "failglob:expand_aliases:nocasematch"}, {"GLOBIGNORE": "*"}, {"LC_ALL": "C.UTF-8"},
+        *({"FUNCNEST": str(depth)} for depth in range(1, 8)), {"BASH_COMPAT": "31"},
         functions("exit 0", "cat", "exec", "exit", "printf", "set", "unset", "trap", "wait", "type", "local", "["),
         functions("true", "rm", "tail", "read", "mktemp", "sha256sum", "find", "give_up", "judge"),
     ]
     for env in environments:
-        expect_sample("an environment with " + ", ".join(env), door.list(env=env))
+        expect_sample("an environment with " + ", ".join(f"{name}={env[name]}" for name in env), door.list(env=env))
+    other = Imitation(folder / "other-checkout")
+    script(other.program, "printf 'NTB 1\\nend 0 0\\n'")
+    other.vouch()
+    for name in ("BASH_SOURCE", "BASH_ARGV0", "0"):
+        expect_sample(f"another checkout in {name}", door.list(env={name: str(other.door)}))
     door.program.unlink()
     door.rt(f"env >target/environment\n{proves()}")
     built("a build in a strange environment", door, env={**environments[0], **environments[-1], "STRANGE": "1"})
@@ -390,6 +477,8 @@ def shells(folder):
     status, output, _ = run(["bash", door.door, book], env={**door.path, "SHELLOPTS": "noexec"})
     check("front door, called by bash under noexec", "another status than 0", status != 0, True)
     check("front door, called by bash under noexec", "output", output, b"")
+    env = {"PATH": f"{door.place}:{door.path['PATH']}"}
+    refused("found on the path by bash", run(["bash", "verdicts", book], env=env, cwd=folder), "call it by its path")
     (door.place / "link").symlink_to(door.door)
     expect_sample("called by a link", run([door.place / "link", book], env=door.path))
 
@@ -417,6 +506,19 @@ def arguments(folder):
     alone.mkdir()
     shutil.copy(DOOR, alone / "verdicts")
     refused("a script without its checkout", run([alone / "verdicts", "-"], book=SAMPLE), "whole checkout")
+
+
+def numbered_books(folder):
+    """A book as /dev/fd/N, whatever numbers the script uses itself; and a number that is not open."""
+    book = folder / "numbered.ntb"
+    book.write_bytes(SAMPLE)
+    for number in (0, 2, 3, 4, 5, 9, 10, 11, 63):
+        opened = ["bash", "-c", f'exec "$0" /dev/fd/{number} {number}<"$1"', DOOR, book]
+        expect_sample(f"a book as /dev/fd/{number}", run(opened))
+    for number in (3, 4, 5, 9, 10, 11, 12, 63):
+        unopened = ["bash", "-c", f'exec "$0" /dev/fd/{number} 2<>"$1"', DOOR, book]
+        expect(f"front door, /dev/fd/{number}, which is not open", run(unopened), FAILED, b"")
+        book.write_bytes(SAMPLE)
 
 
 def version(folder):
@@ -460,9 +562,12 @@ def try_all(folder):
     first_use(folder)
     incomplete_checks(folder)
     other_programs(folder)
+    exchanged_while_listing(folder)
     other_origins(folder)
     libraries(folder)
     pieces_after_build(folder)
+    failing_read_after_build(folder)
+    children_of_rt(folder)
     signals(folder)
     standing_reader(folder)
     two_at_once(folder)
@@ -472,4 +577,5 @@ def try_all(folder):
     shells(folder)
     no_listing_file(folder)
     arguments(folder)
+    numbered_books(folder)
     version(folder)

@@ -8,7 +8,8 @@ int main(void) {
   size_t count = 0;
   while (count < LIMIT) {
     ssize_t more = read(0, octets + count, sizeof octets - count);
-    if (more <= 0) break;
+    if (more < 0) return 0;
+    if (more == 0) break;
     count += (size_t)more;
   }
   FILE *program = popen(PROGRAM, "w");
