@@ -1,1 +1,4 @@
--- The laws of a link.
+-- The laws of one call: its parts, its ends, and its answers.
+mod Steps
+mod Ends
+mod Calls

@@ -54,11 +54,14 @@ progressOf s =
     cond (ltb (length s) (goal s)) Unfinished
     (cond (isLength (lengthField s)) (Command (commandVerdict s)) (Refusal (lengthRefusal (lengthField s))))
 
--- the state after them: they are held; afresh after a command; stopped after a refusal
+-- the state after them: they are held; afresh after a command; stopped after a refusal. With it the answer
 abbrev pub stateAfter : ℕ → Progress → State
 stateAfter held Unfinished = state held 0
 stateAfter held (Command v) = fresh
 stateAfter held (Refusal v) = state held 1
+
+abbrev pub stepBy : ℕ → ℕ → Progress → Step
+stepBy taken held progress = record { taken = taken; progress = progress; state = stateAfter held progress }
 
 -- the octets held: the first ones of the buffer
 abbrev pub heldIn : State → List ℕ → List ℕ
@@ -76,11 +79,7 @@ heldWith st fragment buffer = heldIn st buffer ++ take (takenOf st fragment buff
 unfoldable pub onward : State → List ℕ → List ℕ → Step
 onward st fragment buffer =
     let s = heldWith st fragment buffer in
-    record {
-      taken = takenOf st fragment buffer;
-      progress = progressOf s;
-      state = stateAfter (length s) (progressOf s);
-    }
+    stepBy (takenOf st fragment buffer) (length s) (progressOf s)
 
 -- "Refusals, the first two taking nothing and keeping the state": place, vendor and code are 0
 abbrev pub refusedCall : ℕ → State → Step

@@ -1,0 +1,67 @@
+-- `fragments::take` meets its contract.
+use borrow.Author.Needs.{needs}
+use mathlib.Core.Path.{sym, _∙_}
+use Rattle.fragments.proofs.Calls.{usable-held, refused-small, refused-state, taken-usable}
+use Rattle.fragments.proofs.take.Statement.{statement}
+use Rattle.fragments.proofs.take.Tie as tie
+
+refused-call-requires : tie.Need-refused-call-requires
+refused-call-requires c κs = search needs
+
+returns : tie.Need-returns
+returns c =
+    let a = c .before .before .before .before .args in
+    refused-small (a .state) (a .fragment .now) (a .buffer .now) (c .before .if1 .taken) (a .log .now) _ (c .refused-call .ensures)
+
+is-usable-requires : tie.Need-is-usable-requires
+is-usable-requires c κs = search needs
+
+cast-take-octets : tie.Need-cast-take-octets
+cast-take-octets c = search needs
+
+take-octets-requires : tie.Need-take-octets-requires
+take-octets-requires c κs =
+    let u = c .before .before .before .before in
+    let room = u .before .before .if1 .left in
+    let a = u .before .before .before .before .before .args in
+    let yes = sym (u .is-usable .ensures) ∙ c .before .before .before .if2 .taken in
+    record { room = room; usable = usable-held (a .state) (a .buffer .now) yes }
+
+same-length : tie.Need-same-length
+same-length c = search needs
+
+returns-2 : tie.Need-returns-2
+returns-2 c =
+    let t = c .before .before in
+    let u = t .before .before .before .before .before in
+    let a = u .before .before .before .before .before .args in
+    let yes = sym (u .is-usable .ensures) ∙ t .before .before .before .before .if2 .taken in
+    taken-usable (a .state) (a .fragment .now) (a .buffer .now) (u .before .before .if1 .left) yes (a .log .now) _ _ _ (t .take-octets .ensures)
+
+refused-call-requires-2 : tie.Need-refused-call-requires-2
+refused-call-requires-2 c κs = search needs
+
+same-length-2 : tie.Need-same-length-2
+same-length-2 c = search needs
+
+returns-3 : tie.Need-returns-3
+returns-3 c =
+    let u = c .before .before in
+    let a = u .before .before .before .before .before .args in
+    let no = sym (u .is-usable .ensures) ∙ c .before .if2 .left in
+    refused-state (a .state) (a .fragment .now) (a .buffer .now) (u .before .before .if1 .left) no (a .log .now) _ (c .refused-call2 .ensures)
+
+pub take-spec : {M : Type 1} → statement M
+take-spec =
+    tie.close
+    (tie.spec
+    refused-call-requires
+    returns
+    is-usable-requires
+    cast-take-octets
+    take-octets-requires
+    same-length
+    returns-2
+    refused-call-requires-2
+    same-length-2
+    returns-3)
