@@ -4,9 +4,9 @@ ghost use mathlib.Core.Path.{_≡_};
 ghost use Prim.Native.Nat.{_-_, _≤_, _<_, min};
 ghost use lib.ListN.{length};
 ghost use Rattle.rules.specs.Header.{longestCommand};
-ghost use Rattle.fragments.specs.Link.{fresh, isLength, isUsable, lengthRefusal, refusedCall, stepBy};
+ghost use Rattle.fragments.specs.Link.{state, fresh, isLength, isUsable, lengthRefusal, refusedCall, stepBy};
 ghost use Rattle.fragments.specs.Promise.{Filled, CanTake, TakenFrom, Taken};
-ghost use Rattle.fragments.specs.declared.Progress.the-variants.{Unfinished, Refusal};
+ghost use Rattle.fragments.specs.declared.Progress.the-variants.{Unfinished, Command, Refusal};
 use rules::Verdict;
 use rules::limits;
 
@@ -66,9 +66,9 @@ fn is_usable(state: State, buffer: &[u8]) -> bool
     if held < FIELD_END {
         return true;
     }
-    let length = octets::number3(buffer, 1) as usize;
-    if is_length(length) {
-        return held < length;
+    let field = octets::number3(buffer, 1) as usize;
+    if is_length(field) {
+        return held < field;
     }
     false
 }
@@ -112,6 +112,16 @@ fn refused_call(number: u32, state: State) -> Step
     }
 }
 
+fn state_of(held: usize, stopped: u32) -> State
+    requires { ⌜ held < longestCommand ⌝ }
+    ensures { λ r. ⌜ r ≡ state held stopped ⌝ }
+{
+    State {
+        held: held as u32,
+        stopped,
+    }
+}
+
 fn unfinished(taken: usize, held: usize) -> Step
     requires { ⌜ held < longestCommand ⌝ }
     ensures { λ r. ⌜ r ≡ stepBy taken held Unfinished ⌝ }
@@ -119,10 +129,18 @@ fn unfinished(taken: usize, held: usize) -> Step
     Step {
         taken,
         progress: Progress::Unfinished,
-        state: State {
-            held: held as u32,
-            stopped: 0,
-        },
+        state: state_of(held, 0),
+    }
+}
+
+// A whole command, after which the state is fresh.
+fn whole(taken: usize, v: Verdict) -> Step
+    ensures { λ r. ⌜ r ≡ stepBy taken 0 (Command v) ⌝ }
+{
+    Step {
+        taken,
+        progress: Progress::Command(v),
+        state: fresh(),
     }
 }
 
@@ -153,10 +171,7 @@ fn stopped(taken: usize, held: usize, refusal: Verdict) -> Step
     Step {
         taken,
         progress: Progress::Refusal(refusal),
-        state: State {
-            held: held as u32,
-            stopped: 1,
-        },
+        state: state_of(held, 1),
     }
 }
 
@@ -183,12 +198,7 @@ fn take_octets(
     if held + taken < length {
         return unfinished(taken, held + taken);
     }
-    let v = reader::verdict(&buffer[..length], log);
-    Step {
-        taken,
-        progress: Progress::Command(v),
-        state: fresh(),
-    }
+    whole(taken, reader::verdict(&buffer[..length], log))
 }
 
 // Takes a fragment up to its end, the end of one whole command or a refusal. The command then stands at the buffer's

@@ -18,8 +18,8 @@ returns-2 c = sym (usable-early _ _ (c .before .before .if1 .left) (c .if2 .take
 number3-requires : tie.Need-number3-requires
 number3-requires c κs = search needs
 
-cast-length : tie.Need-cast-length
-cast-length c = search needs
+cast-field : tie.Need-cast-field
+cast-field c = search needs
 
 is-length-requires : tie.Need-is-length-requires
 is-length-requires c κs = search needs
@@ -45,7 +45,7 @@ is-usable-spec =
     cast-held
     returns-2
     number3-requires
-    cast-length
+    cast-field
     is-length-requires
     returns-3
     returns-4)

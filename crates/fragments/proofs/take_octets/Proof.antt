@@ -156,8 +156,8 @@ slice-aggregate-verdict c = sym (length-take-le _ _ (slice-reshare-prefix-verdic
 verdict-requires : tie.Need-verdict-requires
 verdict-requires c κs = search needs
 
-fresh-requires : tie.Need-fresh-requires
-fresh-requires c κs = search needs
+whole-requires : tie.Need-whole-requires
+whole-requires c κs = search needs
 
 same-length-4 : tie.Need-same-length-4
 same-length-4 c = search needs
@@ -175,7 +175,7 @@ returns-4 c =
     ends-whole (a .held) (a .fragment .now) (a .buffer .now) (start .pre) (f .fill .result) _ (f .fill .ensures)
     (e .if1 .left) (n .number3 .result) (n .number3 .ensures .is) yes
     (m .fill2 .result) _ (m .fill2 .ensures) (c .before .before .before .before .if3 .left) _ (a .log .now) _ (c .before .verdict .ensures) _
-    (rw (c .fresh .ensures))
+    (c .whole .ensures)
 
 pub take-octets-spec : {M : Type 1} → statement M
 take-octets-spec =
@@ -206,6 +206,6 @@ take-octets-spec =
     slice-reshare-prefix-verdict
     slice-aggregate-verdict
     verdict-requires
-    fresh-requires
+    whole-requires
     same-length-4
     returns-4)
