@@ -1,5 +1,5 @@
 // The boundary for C and Rust callers: the verdict, the record as numbers, the data of a position, the search, the
-// writer, and the canonical form. include/talazumir.h says the same in C's terms.
+// writer, the canonical form, and commands from a link. include/talazumir.h says the same in C's terms.
 ghost use mathlib.Core.Path.{_≡_};
 ghost use Rattle.reader.specs.Promise.{Judged};
 ghost use Rattle.numbers.specs.Draft.{numberedDraft};
@@ -9,6 +9,8 @@ ghost use Rattle.boundary.specs.Parts.{IsRead, IsData, searchNumbers};
 use rules::Verdict;
 use rules::Written;
 use rules::limits;
+
+mod link;
 
 // A part of a slice, by its start and its length.
 #[repr(C)]
