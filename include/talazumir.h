@@ -24,6 +24,17 @@ extern "C" {
 /* The numbers of a log, the scratch memory of a verdict. */
 #define TALAZUMIR_LOG_NUMBERS 1792
 
+/* The octets of the buffer that a link's commands are put together in, at least. */
+#define TALAZUMIR_LINK_BUFFER 16384
+
+/* What stopped a call for a link: the fragment's end, the end of a whole command, or a refusal. */
+#define TALAZUMIR_UNFINISHED 0
+#define TALAZUMIR_COMMAND 1
+#define TALAZUMIR_REFUSAL 2
+
+/* The number of the verdict while a command is unfinished, so that none takes it for an acceptance. */
+#define TALAZUMIR_NO_VERDICT 4294967295u
+
 /* The numbers of a record: seven for the command, then seven for each of 256 positions. */
 #define TALAZUMIR_RECORD_NUMBERS 1799
 
@@ -57,9 +68,11 @@ extern "C" {
 #define TALAZUMIR_SEARCH_STACK 256
 #define TALAZUMIR_WRITE_STACK 28672
 #define TALAZUMIR_CANONICAL_STACK 49152
+#define TALAZUMIR_LINK_FRESH_STACK 256
+#define TALAZUMIR_LINK_TAKE_STACK 2048
 
-/* What comes back for a command or a draft: the number (table below), the place, counted in octets from the command's
- * start, and the Vendor-Id and code of the AVP at fault. An accepted one has four times 0.
+/* What comes back for a command, a draft or a fragment: the number (table below), the place, counted in octets from the
+ * command's start, and the Vendor-Id and code of the AVP at fault. An accepted one has four times 0.
  *
  *      0  accepted
  *   3001  command code                3007  application
@@ -69,12 +82,13 @@ extern "C" {
  *   5009  AVP too many times          5011  version
  *   5014  AVP length                  5015  command length
  *   7001  longer than 16,384 octets   7002  257th AVP
- *   7003  group at depth 4            7004  output too short (writer)
+ *   7003  group at depth 4            7004  output too short (writer), buffer too short (link)
  *   7005  error answer                7006  malformed draft (writer)
+ *   7009  the run has stopped, or no such state (link)
  *
  * The place is the first octet of the AVP at fault; for 5005 the end of the list that lacks the AVP, with the missing
- * vendor and code. Header refusals and 7002 have vendor and code 0; 7004, 7006 and the writer's 7001 have place 0
- * too. */
+ * vendor and code. Header refusals and 7002 have vendor and code 0; 7004, 7006, 7009 and the writer's 7001 have
+ * place 0 too. */
 struct TalazumirVerdict {
     uint32_t number;
     uint32_t place;
@@ -93,6 +107,22 @@ struct TalazumirWritten {
 struct TalazumirPart {
     size_t start;
     size_t length;
+};
+
+/* What a caller keeps between calls for one link: how many octets of the next command the buffer holds, and whether the
+ * run has stopped, 0 if not. */
+struct TalazumirLinkState {
+    uint32_t held;
+    uint32_t stopped;
+};
+
+/* What comes back for a fragment: how many of its octets were taken, what stopped the call, its verdict
+ * (TALAZUMIR_NO_VERDICT, then three times 0, while the command is unfinished), and the state for the next call. */
+struct TalazumirLinkStep {
+    size_t taken;
+    uint32_t progress;
+    struct TalazumirVerdict verdict;
+    struct TalazumirLinkState state;
 };
 
 /* The verdict of the command that is the whole slice. The log is scratch memory: whatever it holds before plays no
@@ -144,6 +174,37 @@ struct TalazumirWritten talazumir_write(const uint32_t record[TALAZUMIR_RECORD_N
  * reserved command bits: so it names a state. With a refusal the whole output stays as it was, else the octets past the
  * length. */
 struct TalazumirWritten talazumir_canonical(const uint8_t *octets, size_t length, uint8_t *out, size_t room);
+
+/* The state to start a run with: no octets held, not stopped. To start afresh is to take it again; it forgets what is
+ * held, and a run that has stopped goes on in no other way. */
+struct TalazumirLinkState talazumir_link_fresh(void);
+
+/* Takes a fragment of a run of commands, which may end anywhere, up to the end of one whole command. The caller starts
+ * with talazumir_link_fresh, hands the state of each step to the next call, lends the same buffer of at least
+ * TALAZUMIR_LINK_BUFFER octets to each and writes nothing to it, and offers again what was not taken, alone or before
+ * the next fragment. Then every cutting of a run, with empty fragments too, finds the same commands with the same
+ * verdicts, takes as many octets in total and leaves the same octets held as the run in one piece.
+ *
+ * Any state and any octets of the buffer have an answer. F is the length field, octets 1 to 3 of the buffer. The first
+ * of these that applies is the answer:
+ *
+ *   7004  TALAZUMIR_REFUSAL: the room is less than TALAZUMIR_LINK_BUFFER
+ *   7009  TALAZUMIR_REFUSAL: `stopped` is not 0; or `held` is 4 or more, and F under 20, above 16,384 or not above it
+ *         else octets of the fragment are put into the buffer behind those held, one after the other, until
+ *   5015  TALAZUMIR_REFUSAL at place 1: the fourth octet stands there, and F is under 20
+ *   7001  TALAZUMIR_REFUSAL at place 1: the fourth octet stands there, and F is above 16,384
+ *         TALAZUMIR_COMMAND, with the verdict that talazumir_verdict gives: F octets stand there
+ *         TALAZUMIR_UNFINISHED: the fragment has no more
+ *
+ * 7004 and 7009 take nothing and keep the state. 5015 and 7001 take the fourth octet last and stop the run: 4 octets
+ * are held, and 7009 is the answer until the caller starts afresh. A command stops no run, whatever its verdict, and
+ * leaves the state fresh. It stands at the start of the buffer until the next call, as many octets as were held before
+ * and taken, which is F: talazumir_read over these gives its record.
+ *
+ * Of the buffer only as many octets change as were taken, from those held on; what lies behind the held ones is not
+ * looked at. The log is scratch memory: after TALAZUMIR_COMMAND as talazumir_verdict leaves it, else as it was. */
+struct TalazumirLinkStep talazumir_link_take(struct TalazumirLinkState state, const uint8_t *fragment, size_t length,
+                                             uint8_t *buffer, size_t room, uint32_t log[TALAZUMIR_LOG_NUMBERS]);
 
 #ifdef __cplusplus
 }
