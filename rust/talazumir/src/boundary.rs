@@ -1,6 +1,7 @@
 //! The exported functions of the proved archive. All `unsafe` of this crate stands here.
 
-use crate::{Verdict, Written, LOG_NUMBERS, RECORD_NUMBERS};
+use crate::lent::{State, Step, LOG_NUMBERS};
+use crate::{Verdict, Written, RECORD_NUMBERS};
 
 /// A part of a slice, as it crosses the boundary.
 #[repr(C)]
@@ -16,6 +17,15 @@ extern "C" {
     fn talazumir_search(record: *const u32, vendor: u32, code: u32) -> u32;
     fn talazumir_write(record: *const u32, octets: *const u8, length: usize, out: *mut u8, room: usize) -> Written;
     fn talazumir_canonical(octets: *const u8, length: usize, out: *mut u8, room: usize) -> Written;
+    fn talazumir_link_fresh() -> State;
+    fn talazumir_link_take(
+        state: State,
+        fragment: *const u8,
+        length: usize,
+        buffer: *mut u8,
+        room: usize,
+        log: *mut u32,
+    ) -> Step;
 }
 
 // Each call below is sound for the same reasons. The pointers come from references, so they are not null and live
@@ -51,4 +61,15 @@ pub(crate) fn write(record: &[u32; RECORD_NUMBERS], octets: &[u8], out: &mut [u8
 pub(crate) fn canonical(octets: &[u8], out: &mut [u8]) -> Written {
     // SAFETY: the slice is only read, the output is written; see above.
     unsafe { talazumir_canonical(octets.as_ptr(), octets.len(), out.as_mut_ptr(), out.len()) }
+}
+
+pub(crate) fn link_fresh() -> State {
+    // SAFETY: nothing is handed over.
+    unsafe { talazumir_link_fresh() }
+}
+
+pub(crate) fn link_take(state: State, fragment: &[u8], buffer: &mut [u8], log: &mut [u32; LOG_NUMBERS]) -> Step {
+    let (room, log) = (buffer.len(), log.as_mut_ptr());
+    // SAFETY: the fragment is only read, the buffer and the log of 1,792 numbers are written; see above.
+    unsafe { talazumir_link_take(state, fragment.as_ptr(), fragment.len(), buffer.as_mut_ptr(), room, log) }
 }

@@ -14,20 +14,23 @@
 //!
 //! A record over lent octets is a draft, which [`write()`] turns into a command; `examples/rewrite.rs` reads a command,
 //! gives it another hop-by-hop identifier and writes it. [`canonical`] writes a command in the one form that all
-//! commands of its meaning share; `examples/states.rs` keeps a set of states by it.
+//! commands of its meaning share; `examples/states.rs` keeps a set of states by it. [`Link`] puts commands together
+//! from the fragments of a capture, which end anywhere; `examples/link.rs` reads one from standard input.
 
 #![deny(unsafe_code)]
 
+use lent::LOG_NUMBERS;
 use std::fmt;
 
 #[allow(unsafe_code)]
 mod boundary;
+pub mod lent;
+pub mod link;
+
+pub use link::Link;
 
 /// Room for AVPs in a record; a count above it is read as it.
 pub const MOST_AVPS: usize = 256;
-
-/// The numbers of a log, seven for each AVP.
-pub(crate) const LOG_NUMBERS: usize = 7 * MOST_AVPS;
 
 /// The numbers of a record: seven for the command, then seven for each position.
 pub const RECORD_NUMBERS: usize = 7 + 7 * MOST_AVPS;
@@ -246,7 +249,7 @@ impl Reader {
 
     /// The verdict of a command. It does not depend on the commands judged before.
     pub fn verdict(&mut self, octets: &[u8]) -> Verdict {
-        boundary::verdict(octets, &mut self.log)
+        lent::verdict(octets, &mut self.log)
     }
 }
 
