@@ -16,6 +16,8 @@ mod exchange;
 mod gaps;
 pub mod generate;
 mod header;
+pub mod link;
+pub mod links;
 pub mod meaning;
 pub mod properties;
 mod record;

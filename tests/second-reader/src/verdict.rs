@@ -1,6 +1,6 @@
 //! The answer to one command, or to one write.
 
-/// The numbers of 01's table.
+/// The numbers of 01's table, and of 02.
 pub mod number {
     /// Accepted.
     pub const ACCEPTED: u32 = 0;
@@ -34,12 +34,14 @@ pub mod number {
     pub const TOO_MANY_AVPS: u32 = 7002;
     /// A group at depth 4.
     pub const GROUP_TOO_DEEP: u32 = 7003;
-    /// The output is too short for the command (writer).
+    /// The output is too short for the command (writer), the buffer for the longest (link).
     pub const OUTPUT_TOO_SHORT: u32 = 7004;
     /// An error answer (E set).
     pub const ERROR_ANSWER: u32 = 7005;
     /// A malformed draft (writer).
     pub const MALFORMED_DRAFT: u32 = 7006;
+    /// The run has stopped, or a state that no run leads to (link).
+    pub const RUN_STOPPED: u32 = 7009;
 
     /// Those that a reader gives.
     pub const ALL: [u32; 17] = [

@@ -5,6 +5,7 @@ pub mod drafts;
 pub mod lists;
 mod mutate;
 mod prng;
+pub mod runs;
 mod sound;
 mod tree;
 
