@@ -18,6 +18,7 @@ enum { PAGE = 4096, MOST = 16 * PAGE };
 static uint8_t *bottom; /* the page below lies before it */
 static uint8_t octets[400], out[400];
 static size_t length;
+static uint8_t buffer[TALAZUMIR_LINK_BUFFER];
 static uint32_t record[TALAZUMIR_RECORD_NUMBERS], log_numbers[TALAZUMIR_LOG_NUMBERS];
 static uint32_t answer;
 
@@ -27,6 +28,12 @@ static void data(void) { answer = talazumir_data(record, 10, octets, length).len
 static void search(void) { answer = talazumir_search(record, 10415, 4208); }
 static void write_draft(void) { answer = talazumir_write(record, octets, length, out, sizeof out).verdict.number; }
 static void canonical(void) { answer = talazumir_canonical(octets, length, out, sizeof out).verdict.number; }
+
+static void link_fresh(void) { answer = talazumir_link_fresh().held; }
+static void link_take(void) {
+    struct TalazumirLinkState fresh = {0, 0};
+    answer = talazumir_link_take(fresh, octets, length, buffer, sizeof buffer, log_numbers).verdict.number;
+}
 
 static void on_stack(const char *name, void (*call)(void), size_t size, uint32_t expected) {
     static ucontext_t here, there;
@@ -49,6 +56,8 @@ static void try_all(uint32_t number) {
     on_stack("data", data, TALAZUMIR_DATA_STACK, number == 0 ? 4 : 0);
     on_stack("search", search, TALAZUMIR_SEARCH_STACK, number == 0 ? 10 : TALAZUMIR_NONE);
     on_stack("canonical", canonical, TALAZUMIR_CANONICAL_STACK, number);
+    on_stack("link_fresh", link_fresh, TALAZUMIR_LINK_FRESH_STACK, 0);
+    on_stack("link_take", link_take, TALAZUMIR_LINK_TAKE_STACK, length == 0 ? TALAZUMIR_NO_VERDICT : number);
     /* the empty record is a draft of no AVP, whose command has neither R nor P */
     on_stack("write", write_draft, TALAZUMIR_WRITE_STACK, number == 0 ? 0 : 3008);
 }
