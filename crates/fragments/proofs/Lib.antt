@@ -1,4 +1,4 @@
--- The laws of one call: its parts, its ends, and its answers.
+-- The laws of one call as code makes it.
 mod Steps
 mod Ends
-mod Calls
+mod Answers

@@ -1,7 +1,7 @@
 -- `fragments::take` meets its contract.
 use borrow.Author.Needs.{needs}
 use mathlib.Core.Path.{sym, _∙_}
-use Rattle.fragments.proofs.Calls.{usable-held, refused-small, refused-state, taken-usable}
+use Rattle.fragments.proofs.Answers.{usable-held, refused-small, refused-state, taken-usable}
 use Rattle.fragments.proofs.take.Statement.{statement}
 use Rattle.fragments.proofs.take.Tie as tie
 
