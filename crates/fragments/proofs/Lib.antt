@@ -1,1 +1,4 @@
--- The laws of a link.
+-- The laws of a link: one call, the run uncut, and a run in calls against the run uncut.
+pub mod Goals
+pub mod Calls
+pub mod Uncut

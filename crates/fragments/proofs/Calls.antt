@@ -1,0 +1,253 @@
+-- Laws of one call: what it takes of a fragment, what that comes to, and what the buffer holds afterwards. The octets
+-- offered are those held, then the fragment.
+use mathlib.Core.Path.{_≡_, refl, sym, ap, _∙_}
+use mathlib.Core.Bool.{Bool, true, false, cond}
+use mathlib.Core.List.{List, [], _∷_, _++_}
+use Prim.Native.Nat.{ℕ, _+_, _-_, _≤_, _<_, min}
+use native.Mathlib.Omega.{arith}
+use borrow.Author.Tests.{lt-ltb, le-ltb, ltb-true, ltb-false}
+use lib.Dec.{ltb}
+use lib.ListN.{length, take, drop, length-append, take-append-drop}
+use lib.Seq.{take-append-add, take-length, take-at, length-take-le, sets, sets-eq, length-sets}
+use Rattle.rules.specs.Header.{lengthField, longestCommand}
+use Rattle.rules.specs.Command.{commandVerdict}
+use Rattle.rules.proofs.Walk.{by-cases}
+use Rattle.fragments.specs.declared.State.{State}
+use Rattle.fragments.specs.declared.Progress.{Progress}
+use Rattle.fragments.specs.declared.Progress.the-variants.{Unfinished, Command, Refusal}
+use Rattle.fragments.specs.declared.Step.{Step}
+use Rattle.fragments.specs.Link.{state, fresh, fieldEnd, isLength, isUsable, goal, lengthRefusal, progressOf, stateAfter, heldIn, takenOf, heldWith, onward, refusedCall, step, bufferAfter}
+use Rattle.fragments.proofs.Goals.{field-first, goal-field, goal-refused, goal-bounds, goal-first, goal-above, Short, usable-short, short-usable, fresh-usable}
+
+abbrev pub offered : State → List ℕ → List ℕ → List ℕ
+offered st fragment buffer = heldIn st buffer ++ fragment
+
+-- ---- what octets come to
+
+progress-short : (s : List ℕ) → length s < goal s → progressOf s ≡ Unfinished
+unfolding progressOf
+progress-short s h = rw (lt-ltb (length s) (goal s) h)
+
+progress-command : (s : List ℕ) → goal s ≤ length s → isLength (lengthField s) ≡ true
+    → progressOf s ≡ Command (commandVerdict s)
+unfolding progressOf
+progress-command s h e = rw (le-ltb (length s) (goal s) h, e)
+
+progress-refusal : (s : List ℕ) → goal s ≤ length s → isLength (lengthField s) ≡ false
+    → progressOf s ≡ Refusal (lengthRefusal (lengthField s))
+unfolding progressOf
+progress-refusal s h e = rw (le-ltb (length s) (goal s) h, e)
+
+-- octets at or past their goal: their front up to it has the same goal and length field
+module _ (s : List ℕ) (reached : goal s ≤ length s) where
+  abbrev front : List ℕ
+  front = take (goal s) s
+
+  front-long : length front ≡ goal s
+  front-long = length-take-le (goal s) s reached
+
+  front-four : fieldEnd ≤ length front
+  front-four =
+      let l = front-long in
+      let b = goal-bounds s .0 in
+      omega arith
+
+  front-goal : goal front ≡ goal s
+  front-goal = sym (goal-first front (drop (goal s) s) front-four) ∙ ap goal (take-append-drop (goal s) s)
+
+  front-field : lengthField front ≡ lengthField s
+  front-field =
+      sym (field-first front (drop (goal s) s) front-four) ∙ ap lengthField (take-append-drop (goal s) s)
+
+  front-command : isLength (lengthField s) ≡ true → progressOf front ≡ Command (commandVerdict front)
+  front-command e =
+      let l = front-long in
+      let g = front-goal in
+      progress-command front (omega arith) (rw front-field e)
+
+  front-refusal : isLength (lengthField s) ≡ false → progressOf front ≡ Refusal (lengthRefusal (lengthField s))
+  front-refusal e =
+      let l = front-long in
+      let g = front-goal in
+      progress-refusal front (omega arith) (rw front-field e)
+      ∙ ap (λ (n : ℕ). Refusal (lengthRefusal n)) front-field
+
+-- ---- refused calls
+
+module _ (st : State) (fragment buffer : List ℕ) where
+  pub step-7004 : length buffer < longestCommand → step st fragment buffer ≡ refusedCall 7004 st
+  unfolding step
+  step-7004 few = rw (lt-ltb (length buffer) longestCommand few)
+
+  pub step-7009 : longestCommand ≤ length buffer → isUsable st buffer ≡ false
+      → step st fragment buffer ≡ refusedCall 7009 st
+  unfolding step
+  step-7009 room e = rw (le-ltb (length buffer) longestCommand room, e)
+
+  pub step-onward : longestCommand ≤ length buffer → isUsable st buffer ≡ true
+      → step st fragment buffer ≡ onward st fragment buffer
+  unfolding step
+  step-onward room e = rw (le-ltb (length buffer) longestCommand room, e)
+
+  -- what a call takes lies in the fragment
+  pub taken-within : step st fragment buffer .taken ≤ length fragment
+  unfolding onward takenOf
+  taken-within =
+      by-cases (ltb (length buffer) longestCommand)
+      (λ few. rw (step-7004 (ltb-true _ _ few)) (omega arith))
+      (λ room. by-cases (isUsable st buffer) (λ e. rw (step-onward (ltb-false _ _ room) e) (omega arith))
+      (λ e. rw (step-7009 (ltb-false _ _ room) e) (omega arith)))
+
+  -- where nothing is taken, nothing is stored
+  pub nothing-stored : step st fragment buffer .taken ≡ 0 → bufferAfter st fragment buffer ≡ buffer
+  nothing-stored e = ap (λ (n : ℕ). sets buffer (st .held) (take n fragment)) e
+
+  -- a buffer keeps its length
+  pub buffer-long : length (bufferAfter st fragment buffer) ≡ length buffer
+  buffer-long = length-sets buffer (st .held) (take (step st fragment buffer .taken) fragment)
+
+-- ---- calls that go on
+
+module _ (st : State) (fragment buffer : List ℕ) (room : longestCommand ≤ length buffer)
+    (usable : isUsable st buffer ≡ true)
+  where
+    abbrev all : List ℕ
+    all = offered st fragment buffer
+
+    abbrev held : List ℕ
+    held = heldIn st buffer
+
+    held-many : length held ≡ st .held
+    held-many = usable-short st buffer room usable .many
+
+    pub offered-long : length all ≡ st .held + length fragment
+    offered-long = length-append held fragment ∙ ap (λ (n : ℕ). n + length fragment) held-many
+
+    pub goal-over : st .held < goal all
+    goal-over =
+        let l = held-many in
+        let s = usable-short st buffer room usable .below in
+        let a = goal-above held fragment (omega arith) in
+        omega arith
+
+    -- what is taken is stored in the buffer
+    fits : st .held + takenOf st fragment buffer ≤ length buffer
+    unfolding takenOf
+    fits =
+        let g = goal-over in
+        let b = goal-bounds all .1 in
+        omega arith
+
+    taken-there : length (take (takenOf st fragment buffer) fragment) ≡ takenOf st fragment buffer
+    unfolding takenOf
+    taken-there = length-take-le (takenOf st fragment buffer) fragment (omega arith)
+
+    -- the octets held with those taken stand at the buffer's start
+    pub held-after : take (length (heldWith st fragment buffer)) (bufferAfter st fragment buffer)
+        ≡ heldWith st fragment buffer
+    unfolding onward
+    held-after =
+        let vs = take (takenOf st fragment buffer) fragment in
+        let l = taken-there in
+        let k = fits in
+        ap (λ (t : Step). take (length (held ++ vs)) (sets buffer (st .held) (take (t .taken) fragment)))
+        (step-onward st fragment buffer room usable)
+        ∙ ap (take (length (held ++ vs))) (sets-eq vs buffer (st .held) (omega arith))
+        ∙ take-at (held ++ vs) (drop (st .held + length vs) buffer) (length (held ++ vs)) refl
+
+    -- a call that goes on, by what it takes and what it then holds
+    onward-is : (n : ℕ) (s : List ℕ) (p : Progress) → takenOf st fragment buffer ≡ n → heldWith st fragment buffer ≡ s
+        → progressOf s ≡ p
+        → step st fragment buffer ≡ record { taken = n; progress = p; state = stateAfter (length s) p }
+    unfolding onward
+    onward-is n s p t h e = step-onward st fragment buffer room usable ∙ rw (h, t, e)
+
+    -- octets that stay short of their goal: the whole fragment is taken and held
+    module _ (less : length all < goal all) where
+      taken-all : takenOf st fragment buffer ≡ length fragment
+      unfolding takenOf
+      taken-all = let l = offered-long in omega arith
+
+      pub held-all : heldWith st fragment buffer ≡ all
+      held-all =
+          ap (λ (n : ℕ). held ++ take n fragment) taken-all
+          ∙ ap (λ (l : List ℕ). held ++ l) (take-length fragment)
+
+      pub step-unfinished : step st fragment buffer
+          ≡ record { taken = length fragment; progress = Unfinished; state = state (length all) 0 }
+      step-unfinished = onward-is (length fragment) all Unfinished taken-all held-all (progress-short all less)
+
+      pub unfinished-held : take (length all) (bufferAfter st fragment buffer) ≡ all
+      unfinished-held =
+          ap (λ (s : List ℕ). take (length s) (bufferAfter st fragment buffer)) (sym held-all) ∙ held-after ∙ held-all
+
+      -- and the state can be gone on with
+      pub unfinished-usable : isUsable (state (length all) 0) (bufferAfter st fragment buffer) ≡ true
+      unfinished-usable =
+          let l = buffer-long st fragment buffer in
+          let b = goal-bounds all .1 in
+          short-usable all (bufferAfter st fragment buffer) unfinished-held (omega arith) less
+
+    -- octets that reach it: the fragment is taken up to it
+    module _ (reached : goal all ≤ length all) where
+      taken-goal : takenOf st fragment buffer ≡ goal all - st .held
+      unfolding takenOf
+      taken-goal =
+          let l = offered-long in
+          let g = goal-over in
+          omega arith
+
+      pub held-goal : heldWith st fragment buffer ≡ take (goal all) all
+      held-goal =
+          let g = goal-over in
+          let l = held-many in
+          let n : length held + (goal all - st .held) ≡ goal all = omega arith in
+          ap (λ (n : ℕ). held ++ take n fragment) taken-goal
+          ∙ sym (take-append-add held fragment (goal all - st .held))
+          ∙ ap (λ (n : ℕ). take n all) n
+
+      -- the command is exactly as many octets as its length field says
+      pub step-command : isLength (lengthField all) ≡ true
+          → step st fragment buffer
+          ≡ record {
+            taken = lengthField all - st .held;
+            progress = Command (commandVerdict (take (lengthField all) all));
+            state = fresh;
+          }
+      step-command e =
+          let b = goal-bounds all .0 in
+          let g = goal-field all (omega arith) e in
+          onward-is (lengthField all - st .held) (take (lengthField all) all)
+          (Command (commandVerdict (take (lengthField all) all)))
+          (taken-goal ∙ ap (λ (n : ℕ). n - st .held) g) (held-goal ∙ ap (λ (n : ℕ). take n all) g)
+          (ap (λ (n : ℕ). progressOf (take n all)) (sym g)
+          ∙ front-command all reached e
+          ∙ ap (λ (n : ℕ). Command (commandVerdict (take n all))) g)
+
+      -- the run stops, with its first four octets held
+      pub step-refusal : isLength (lengthField all) ≡ false
+          → step st fragment buffer
+          ≡ record {
+            taken = fieldEnd - st .held;
+            progress = Refusal (lengthRefusal (lengthField all));
+            state = state fieldEnd 1;
+          }
+      step-refusal e =
+          let b = goal-bounds all .0 in
+          let g = goal-refused all (omega arith) e in
+          let l = front-long all reached in
+          onward-is (fieldEnd - st .held) (take (goal all) all) (Refusal (lengthRefusal (lengthField all)))
+          (taken-goal ∙ ap (λ (n : ℕ). n - st .held) g) held-goal (front-refusal all reached e)
+          ∙ ap
+          (λ (n : ℕ).
+          record { taken = fieldEnd - st .held; progress = Refusal (lengthRefusal (lengthField all)); state = state n 1 })
+          (l ∙ g)
+
+      pub refusal-held : isLength (lengthField all) ≡ false
+          → take fieldEnd (bufferAfter st fragment buffer) ≡ take fieldEnd all
+      refusal-held e =
+          let b = goal-bounds all .0 in
+          let g = goal-refused all (omega arith) e in
+          let h : heldWith st fragment buffer ≡ take fieldEnd all = held-goal ∙ ap (λ (n : ℕ). take n all) g in
+          let l : length (take fieldEnd all) ≡ fieldEnd = length-take-le fieldEnd all (omega arith) in
+          ap (λ (n : ℕ). take n (bufferAfter st fragment buffer)) (sym l ∙ ap length (sym h)) ∙ held-after ∙ h
