@@ -238,10 +238,7 @@ module _ (st : State) (fragment buffer : List ℕ) (room : longestCommand ≤ le
           let l = front-long all reached in
           onward-is (fieldEnd - st .held) (take (goal all) all) (Refusal (lengthRefusal (lengthField all)))
           (taken-goal ∙ ap (λ (n : ℕ). n - st .held) g) held-goal (front-refusal all reached e)
-          ∙ ap
-          (λ (n : ℕ).
-          record { taken = fieldEnd - st .held; progress = Refusal (lengthRefusal (lengthField all)); state = state n 1 })
-          (l ∙ g)
+          ∙ rw (l, g)
 
       pub refusal-held : isLength (lengthField all) ≡ false
           → take fieldEnd (bufferAfter st fragment buffer) ≡ take fieldEnd all

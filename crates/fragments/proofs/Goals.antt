@@ -73,7 +73,8 @@ goal-above s t h =
 -- ---- states that can be gone on with
 
 -- four octets of a buffer settle the length field that stands in it
-field-held : (n : ℕ) (buffer : List ℕ) → fieldEnd ≤ n → n ≤ length buffer → lengthField (take n buffer) ≡ lengthField buffer
+field-held : (n : ℕ) (buffer : List ℕ) → fieldEnd ≤ n → n ≤ length buffer
+    → lengthField (take n buffer) ≡ lengthField buffer
 field-held n buffer h k = numberAt-part 3 buffer 0 n 1 (omega arith) (omega arith)
 
 -- the octets that such a state holds lie in the buffer, short of their goal

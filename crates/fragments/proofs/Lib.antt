@@ -2,3 +2,5 @@
 pub mod Goals
 pub mod Calls
 pub mod Uncut
+pub mod Follows
+pub mod Middle

@@ -109,8 +109,8 @@ module _ (s : List ℕ) (e : isWhole s ≡ true) where
       let w = whole s e in
       let a = w .enough in
       let l = length-drop size s in
-      rw e
-      (ap (λ (cs : List (List ℕ)). take size s ∷ cs) (commands-steps n (length behind) behind (omega arith) (omega arith)))
+      let rest = commands-steps n (length behind) behind (omega arith) (omega arith) in
+      rw e (ap (λ (cs : List (List ℕ)). take size s ∷ cs) rest)
 
   pub commands-of : commandsOf s ≡ take size s ∷ commandsOf behind
   commands-of = commands-first (length s) (omega arith)
