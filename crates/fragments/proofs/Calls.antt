@@ -6,7 +6,7 @@ use mathlib.Core.List.{List, [], _∷_, _++_}
 use Prim.Native.Nat.{ℕ, _+_, _-_, _≤_, _<_, min}
 use native.Mathlib.Omega.{arith}
 use borrow.Author.Tests.{lt-ltb, le-ltb, ltb-true, ltb-false}
-use lib.Dec.{ltb}
+use lib.Dec.{ltb, eqb}
 use lib.ListN.{length, take, drop, length-append, take-append-drop}
 use lib.Seq.{take-append-add, take-length, take-at, length-take-le, sets, sets-eq, length-sets}
 use Rattle.rules.specs.Header.{lengthField, longestCommand}
@@ -17,7 +17,7 @@ use Rattle.fragments.specs.declared.Progress.{Progress}
 use Rattle.fragments.specs.declared.Progress.the-variants.{Unfinished, Command, Refusal}
 use Rattle.fragments.specs.declared.Step.{Step}
 use Rattle.fragments.specs.Link.{state, fresh, fieldEnd, isLength, isUsable, goal, lengthRefusal, progressOf, stateAfter, heldIn, takenOf, heldWith, onward, refusedCall, step, bufferAfter}
-use Rattle.fragments.proofs.Goals.{field-first, goal-field, goal-refused, goal-bounds, goal-first, goal-above, Short, usable-short, short-usable, fresh-usable}
+use Rattle.fragments.proofs.Goals.{field-first, goal-field, goal-refused, goal-bounds, goal-first, goal-above, Short, usable-short, short-usable, fresh-usable, stopped-unusable}
 
 abbrev pub offered : State → List ℕ → List ℕ → List ℕ
 offered st fragment buffer = heldIn st buffer ++ fragment
@@ -248,3 +248,29 @@ module _ (st : State) (fragment buffer : List ℕ) (room : longestCommand ≤ le
           let h : heldWith st fragment buffer ≡ take fieldEnd all = held-goal ∙ ap (λ (n : ℕ). take n all) g in
           let l : length (take fieldEnd all) ≡ fieldEnd = length-take-le fieldEnd all (omega arith) in
           ap (λ (n : ℕ). take n (bufferAfter st fragment buffer)) (sym l ∙ ap length (sym h)) ∙ held-after ∙ h
+
+    -- ---- every call that goes on
+
+    -- the state can be gone on with until the run stops
+    pub state-usable : isUsable (step st fragment buffer .state) (bufferAfter st fragment buffer)
+        ≡ eqb (step st fragment buffer .state .stopped) 0
+    state-usable =
+        let after = bufferAfter st fragment buffer in
+        let by : (t : Step) → step st fragment buffer ≡ t → isUsable (t .state) after ≡ eqb (t .state .stopped) 0
+        → isUsable (step st fragment buffer .state) after ≡ eqb (step st fragment buffer .state .stopped) 0 =
+        λ t is e.
+        ap (λ (t : Step). isUsable (t .state) after) is ∙ e ∙ ap (λ (t : Step). eqb (t .state .stopped) 0) (sym is) in
+        by-cases (ltb (length all) (goal all))
+        (λ less. let h = ltb-true _ _ less in by _ (step-unfinished h) (unfinished-usable h))
+        (λ more.
+        let h = ltb-false _ _ more in
+        by-cases (isLength (lengthField all)) (λ e. by _ (step-command h e) (fresh-usable after))
+        (λ e. by _ (step-refusal h e) (stopped-unusable fieldEnd after)))
+
+    -- where octets of the fragment are left, some are taken
+    pub taken-some : step st fragment buffer .taken < length fragment → 1 ≤ step st fragment buffer .taken
+    unfolding onward takenOf
+    taken-some =
+        let g = goal-over in
+        let t = ap (λ (t : Step). t .taken) (step-onward st fragment buffer room usable) in
+        λ h. omega arith

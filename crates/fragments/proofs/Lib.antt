@@ -4,3 +4,4 @@ pub mod Calls
 pub mod Uncut
 pub mod Follows
 pub mod Middle
+pub mod Offers
