@@ -5,3 +5,4 @@ pub mod Uncut
 pub mod Follows
 pub mod Middle
 pub mod Offers
+pub mod Cuttings

@@ -45,7 +45,7 @@ refusal-told n = by-cases (ltb n headerSize) (λ e. rw e) (λ e. rw e)
 
 -- ---- no call: nothing is left of the run
 
-none-from : (held run : List ℕ) → length held < goal held → 0 ≡ length run → AsUncutFrom held run []
+pub none-from : (held run : List ℕ) → length held < goal held → 0 ≡ length run → AsUncutFrom held run []
 none-from held [] h e =
     record {
       verdicts = sym (rw (append-nil held) (verdicts-short held h));
