@@ -1,14 +1,14 @@
 -- Laws of one call: what it takes of a fragment, what that comes to, and what the buffer holds afterwards. The octets
 -- offered are those held, then the fragment.
 use mathlib.Core.Path.{_≡_, refl, sym, ap, _∙_}
-use mathlib.Core.Bool.{Bool, true, false, cond}
-use mathlib.Core.List.{List, [], _∷_, _++_}
-use Prim.Native.Nat.{ℕ, _+_, _-_, _≤_, _<_, min}
+use mathlib.Core.Bool.{true, false}
+use mathlib.Core.List.{List, _++_}
+use Prim.Native.Nat.{ℕ, _+_, _-_, _≤_, _<_}
 use native.Mathlib.Omega.{arith}
 use borrow.Author.Tests.{lt-ltb, le-ltb, ltb-true, ltb-false}
 use lib.Dec.{ltb, eqb}
 use lib.ListN.{length, take, drop, length-append, take-append-drop}
-use lib.Seq.{take-append-add, take-length, take-at, length-take-le, sets, sets-eq, length-sets}
+use lib.Seq.{take-append-le, take-append-add, take-length, take-at, length-take-le, sets, sets-eq, length-sets}
 use Rattle.rules.specs.Header.{lengthField, longestCommand}
 use Rattle.rules.specs.Command.{commandVerdict}
 use Rattle.rules.proofs.Walk.{by-cases}
@@ -17,7 +17,7 @@ use Rattle.fragments.specs.declared.Progress.{Progress}
 use Rattle.fragments.specs.declared.Progress.the-variants.{Unfinished, Command, Refusal}
 use Rattle.fragments.specs.declared.Step.{Step}
 use Rattle.fragments.specs.Link.{state, fresh, fieldEnd, isLength, isUsable, goal, lengthRefusal, progressOf, stateAfter, heldIn, takenOf, heldWith, onward, refusedCall, step, bufferAfter}
-use Rattle.fragments.proofs.Goals.{field-first, goal-field, goal-refused, goal-bounds, goal-first, goal-above, Short, usable-short, short-usable, fresh-usable, stopped-unusable}
+use Rattle.fragments.proofs.Goals.{field-first, goal-field, goal-refused, goal-bounds, goal-first, goal-above, usable-short, short-usable, fresh-usable, stopped-unusable}
 
 abbrev pub offered : State → List ℕ → List ℕ → List ℕ
 offered st fragment buffer = heldIn st buffer ++ fragment
@@ -224,6 +224,17 @@ module _ (st : State) (fragment buffer : List ℕ) (room : longestCommand ≤ le
           ∙ front-command all reached e
           ∙ ap (λ (n : ℕ). Command (commandVerdict (take n all))) g)
 
+      -- whatever comes later: as many octets from the command's start on as the length field there says
+      pub command-front : (later : List ℕ) → isLength (lengthField all) ≡ true
+          → heldWith st fragment buffer ≡ take (lengthField (all ++ later)) (all ++ later)
+      command-front later e =
+          let b = goal-bounds all .0 in
+          let f = field-first all later (omega arith) in
+          let g = goal-field all (omega arith) e in
+          held-goal
+          ∙ ap (λ (n : ℕ). take n all) (g ∙ sym f)
+          ∙ sym (take-append-le (lengthField (all ++ later)) all later (omega arith))
+
       -- the run stops, with its first four octets held
       pub step-refusal : isLength (lengthField all) ≡ false
           → step st fragment buffer
@@ -239,6 +250,14 @@ module _ (st : State) (fragment buffer : List ℕ) (room : longestCommand ≤ le
           onward-is (fieldEnd - st .held) (take (goal all) all) (Refusal (lengthRefusal (lengthField all)))
           (taken-goal ∙ ap (λ (n : ℕ). n - st .held) g) held-goal (front-refusal all reached e)
           ∙ rw (l, g)
+
+      pub refusal-front : (later : List ℕ) → isLength (lengthField all) ≡ false
+          → heldWith st fragment buffer ≡ take fieldEnd (all ++ later)
+      refusal-front later e =
+          let b = goal-bounds all .0 in
+          held-goal
+          ∙ ap (λ (n : ℕ). take n all) (goal-refused all (omega arith) e)
+          ∙ sym (take-append-le fieldEnd all later (omega arith))
 
       pub refusal-held : isLength (lengthField all) ≡ false
           → take fieldEnd (bufferAfter st fragment buffer) ≡ take fieldEnd all
@@ -265,7 +284,7 @@ module _ (st : State) (fragment buffer : List ℕ) (room : longestCommand ≤ le
         (λ more.
         let h = ltb-false _ _ more in
         by-cases (isLength (lengthField all)) (λ e. by _ (step-command h e) (fresh-usable after))
-        (λ e. by _ (step-refusal h e) (stopped-unusable fieldEnd after)))
+        (λ e. by _ (step-refusal h e) (stopped-unusable (state fieldEnd 1) after (omega arith))))
 
     -- where octets of the fragment are left, some are taken
     pub taken-some : step st fragment buffer .taken < length fragment → 1 ≤ step st fragment buffer .taken

@@ -1,18 +1,18 @@
 -- A run comes to the same in every cutting: what its length fields alone make of it. Above each theorem: the words of
 -- request [7] that it meets, what carries it, and two wrong systems that it rules out. That the program gives the
 -- answers of these calls is in the contract of `take`.
-use mathlib.Core.Path.{_≡_, refl, sym, ap, _∙_, subst}
+use mathlib.Core.Path.{_≡_, sym, ap, _∙_, subst}
 use mathlib.Core.Bool.{true}
-use mathlib.Core.Logic.{_⊎_, inl, inr, ⊎-elim}
-use mathlib.Core.List.{List, [], _∷_, _++_}
-use Prim.Native.Nat.{ℕ, _+_, _≤_, _<_}
+use mathlib.Core.Logic.{inl, inr, ⊎-elim}
+use mathlib.Core.List.{List, [], _∷_}
+use Prim.Native.Nat.{ℕ, _+_, _≤_}
 use native.Mathlib.Omega.{arith}
 use lib.ListN.{length}
 use Rattle.rules.specs.Header.{longestCommand}
 use Rattle.rules.specs.Book.{joined}
 use Rattle.fragments.specs.declared.State.{State}
-use Rattle.fragments.specs.Link.{fresh, isUsable, goal, heldIn}
-use Rattle.fragments.specs.Run.{Call, verdictsOf, takenBy, restOf, hasStopped, Cutting, AsUncut, callsFor}
+use Rattle.fragments.specs.Link.{fresh, isUsable, heldIn}
+use Rattle.fragments.specs.Run.{Call, verdictsOf, takenBy, restOf, Cutting, AsUncut, callsFor}
 use Rattle.fragments.proofs.Goals.{goal-bounds, fresh-usable}
 use Rattle.fragments.proofs.Follows.{rest-from, stopped-from, follows-of, keeps-of, hands-of, afresh-of, lends-of}
 use Rattle.fragments.proofs.Middle.{Ends, AsUncutFrom, none-from, cut-from}

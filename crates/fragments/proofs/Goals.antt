@@ -1,17 +1,17 @@
 -- Laws of the goal, up to which octets are held, and of the states that can be gone on with.
 use mathlib.Core.Path.{_≡_, refl, sym, ap, _∙_}
-use mathlib.Core.Bool.{Bool, true, false, _&&_, _||_}
+use mathlib.Core.Bool.{true, false, _&&_, _||_}
 use mathlib.Core.List.{List, _++_}
 use Prim.Native.Nat.{ℕ, _≤_, _<_}
 use native.Mathlib.Omega.{arith}
-use borrow.Author.Tests.{lt-ltb, le-leb, lt-leb, eq-eqb, ltb-true, ltb-false, leb-true, eqb-true}
+use borrow.Author.Tests.{lt-ltb, le-leb, lt-leb, ne-eqb, ltb-true, ltb-false, leb-true, eqb-true}
 use lib.Dec.{ltb, leb, eqb}
 use lib.ListN.{length, take, length-append}
 use lib.Seq.{take-append-seam, length-take-le}
 use Rattle.rules.specs.Octets.{numberAt}
 use Rattle.rules.specs.Header.{headerSize, lengthField, longestCommand}
 use Rattle.rules.proofs.Octets.{numberAt-part}
-use Rattle.rules.proofs.Tests.{and-true, or-right}
+use Rattle.rules.proofs.Tests.{and-true}
 use Rattle.rules.proofs.Walk.{by-cases}
 use Rattle.fragments.specs.declared.State.{State}
 use Rattle.fragments.specs.Link.{state, fresh, fieldEnd, isLength, isUsable, goal, heldIn}
@@ -133,6 +133,6 @@ pub fresh-usable : (buffer : List ℕ) → isUsable fresh buffer ≡ true
 unfolding isUsable
 fresh-usable buffer = refl
 
-pub stopped-unusable : (held : ℕ) (buffer : List ℕ) → isUsable (state held 1) buffer ≡ false
+pub stopped-unusable : (st : State) (buffer : List ℕ) → 0 < st .stopped → isUsable st buffer ≡ false
 unfolding isUsable
-stopped-unusable held buffer = refl
+stopped-unusable st buffer h = rw (ne-eqb (st .stopped) 0 (λ e. omega arith))

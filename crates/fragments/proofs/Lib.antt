@@ -6,3 +6,4 @@ pub mod Follows
 pub mod Middle
 pub mod Offers
 pub mod Cuttings
+pub mod Refusals

@@ -1,7 +1,7 @@
 -- A run in calls, seen from its middle: octets are held, and calls follow on. What they come to is what the octets held
 -- and those still to come give uncut.
 use mathlib.Core.Path.{_≡_, refl, sym, ap, _∙_, subst}
-use mathlib.Core.Bool.{Bool, true, false, cond, not}
+use mathlib.Core.Bool.{true, false, not}
 use mathlib.Core.Logic.{_⊎_, inl, inr, ⊎-elim}
 use mathlib.Core.List.{List, [], _∷_, _++_, append-assoc, append-nil}
 use Prim.Native.Nat.{ℕ, _+_, _-_, _≤_, _<_}
@@ -19,7 +19,7 @@ use Rattle.fragments.specs.declared.Progress.the-variants.{Unfinished, C
 use Rattle.fragments.specs.declared.Step.{Step}
 use Rattle.fragments.specs.Link.{state, fresh, fieldEnd, isLength, isUsable, goal, lengthRefusal, heldIn}
 use Rattle.fragments.specs.Run.{Call, answer, left, told, verdictsOf, takenBy, isWhole, verdictsUncut, restUncut, takenUncut, Begins, OffersAgain}
-use Rattle.fragments.proofs.Goals.{length-bounds, field-first, goal-field, goal-refused, goal-bounds, Short, usable-short, fresh-usable, stopped-unusable}
+use Rattle.fragments.proofs.Goals.{field-first, goal-field, goal-refused, goal-bounds, usable-short, fresh-usable, stopped-unusable}
 use Rattle.fragments.proofs.Calls.{offered, offered-long, goal-over, buffer-long, step-unfinished, unfinished-held, unfinished-usable, step-command, step-refusal, refusal-held}
 use Rattle.fragments.proofs.Uncut.{is-whole, verdicts-first, rest-first, taken-first, verdicts-short, rest-short, taken-short, verdicts-stopped, rest-stopped, taken-stopped}
 use Rattle.fragments.proofs.Follows.{Follows, heldFrom, stoppedFrom, Nothing, stopped-calls}
@@ -256,7 +256,7 @@ module _ (c : Call) (cs : List Call) (run : List ℕ) (room : longestCommand ≤
 
         refusal-next : Nothing (heldIn (state fieldEnd 1) (left c)) cs
         refusal-next =
-            stopped-calls (state fieldEnd 1) (left c) cs left-room (stopped-unusable fieldEnd (left c))
+            stopped-calls (state fieldEnd 1) (left c) cs left-room (stopped-unusable (state fieldEnd 1) (left c) (omega arith))
             (subst (λ (t : Step). Follows (t .state) (left c) cs) is-refusal follows)
 
         all-four : fieldEnd ≤ length (held ++ run)

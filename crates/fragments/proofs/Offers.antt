@@ -1,10 +1,10 @@
 -- The calls for a list of fragments keep to the caller's part: they follow on one another, offer again what was not
 -- taken, and go on until the fragments are taken or the run has stopped.
 use mathlib.Core.Path.{_≡_, refl, sym, ap, _∙_, subst}
-use mathlib.Core.Bool.{Bool, true, false, not, cond}
+use mathlib.Core.Bool.{Bool, true, false, not}
 use mathlib.Core.Logic.{inl, inr, ⊎-elim}
 use mathlib.Core.List.{List, [], _∷_, _++_}
-use Prim.Native.Nat.{ℕ, zero, suc, _+_, _-_, _≤_, _<_}
+use Prim.Native.Nat.{ℕ, zero, suc, _+_, _≤_, _<_}
 use native.Mathlib.Omega.{arith}
 use borrow.Author.Tests.{le-leb, lt-leb, leb-true, leb-false}
 use lib.Dec.{leb, eqb}
@@ -16,7 +16,7 @@ use Rattle.rules.proofs.Walk.{by-cases}
 use Rattle.fragments.specs.declared.State.{State}
 use Rattle.fragments.specs.declared.Step.{Step}
 use Rattle.fragments.specs.Link.{isUsable}
-use Rattle.fragments.specs.Run.{Call, answer, left, takenBy, Begins, OffersAgain, offeredNext, callsFrom}
+use Rattle.fragments.specs.Run.{Call, answer, left, OffersAgain, offeredNext, callsFrom}
 use Rattle.fragments.proofs.Calls.{taken-within, taken-some, state-usable, buffer-long}
 use Rattle.fragments.proofs.Follows.{Follows, stoppedFrom}
 use Rattle.fragments.proofs.Middle.{Ends}

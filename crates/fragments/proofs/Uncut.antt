@@ -1,15 +1,14 @@
 -- Laws of a run uncut: the bound on the number of commands never runs out, and a run is its first command and the run
 -- behind it, or has no command.
 use mathlib.Core.Path.{_≡_, refl, sym, ap, _∙_}
-use mathlib.Core.Bool.{Bool, true, false, cond, not, _&&_}
+use mathlib.Core.Bool.{true, false, cond, _&&_}
 use mathlib.Core.List.{List, [], _∷_, _++_, map}
-use Prim.Native.Nat.{ℕ, zero, suc, _+_, _-_, _≤_, _<_}
+use Prim.Native.Nat.{ℕ, zero, suc, _+_, _≤_, _<_}
 use native.Mathlib.Omega.{arith}
 use borrow.Author.Tests.{le-leb, lt-leb, leb-true}
-use lib.Dec.{ltb, leb}
+use lib.Dec.{leb}
 use lib.ListN.{length, take, drop, length-append, length-drop}
 use lib.Seq.{length-take-le, drop-drop}
-use Rattle.rules.specs.declared.Verdict.{Verdict}
 use Rattle.rules.specs.Header.{headerSize, lengthField}
 use Rattle.rules.specs.Command.{commandVerdict}
 use Rattle.rules.specs.Book.{joined}
@@ -17,7 +16,7 @@ use Rattle.rules.proofs.Tests.{and-true}
 use Rattle.rules.proofs.Walk.{by-cases}
 use Rattle.fragments.specs.Link.{fieldEnd, isLength, goal, lengthRefusal}
 use Rattle.fragments.specs.Run.{isWhole, commandsIn, commandsOf, behindOf, stops, verdictsUncut, restUncut, takenUncut}
-use Rattle.fragments.proofs.Goals.{length-bounds, goal-few, goal-field, goal-refused}
+use Rattle.fragments.proofs.Goals.{length-bounds, goal-field, goal-refused}
 
 -- ---- what a test for a whole command tells
 
