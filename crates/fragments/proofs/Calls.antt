@@ -7,7 +7,7 @@ use Prim.Native.Nat.{ℕ, _+_, _-_, _≤_, _<_}
 use native.Mathlib.Omega.{arith}
 use borrow.Author.Tests.{lt-ltb, le-ltb, ltb-true, ltb-false}
 use lib.Dec.{ltb, eqb}
-use lib.ListN.{length, take, drop, length-append, take-append-drop}
+use lib.ListN.{length, take, drop, length-append}
 use lib.Seq.{take-append-le, take-append-add, take-length, take-at, length-take-le, sets, sets-eq, length-sets}
 use Rattle.rules.specs.Header.{lengthField, longestCommand}
 use Rattle.rules.specs.Command.{commandVerdict}
@@ -17,60 +17,11 @@ use Rattle.fragments.specs.declared.Progress.{Progress}
 use Rattle.fragments.specs.declared.Progress.the-variants.{Unfinished, Command, Refusal}
 use Rattle.fragments.specs.declared.Step.{Step}
 use Rattle.fragments.specs.Link.{state, fresh, fieldEnd, isLength, isUsable, goal, lengthRefusal, progressOf, stateAfter, heldIn, takenOf, heldWith, onward, refusedCall, step, bufferAfter}
-use Rattle.fragments.proofs.Goals.{field-first, goal-field, goal-refused, goal-bounds, goal-first, goal-above, usable-short, short-usable, fresh-usable, stopped-unusable}
+use Rattle.fragments.proofs.Fronts.{progress-short, front-long, front-command, front-refusal}
+use Rattle.fragments.proofs.Goals.{field-first, goal-field, goal-refused, goal-bounds, goal-above, usable-short, short-usable, fresh-usable, stopped-unusable}
 
 abbrev pub offered : State → List ℕ → List ℕ → List ℕ
 offered st fragment buffer = heldIn st buffer ++ fragment
-
--- ---- what octets come to
-
-progress-short : (s : List ℕ) → length s < goal s → progressOf s ≡ Unfinished
-unfolding progressOf
-progress-short s h = rw (lt-ltb (length s) (goal s) h)
-
-progress-command : (s : List ℕ) → goal s ≤ length s → isLength (lengthField s) ≡ true
-    → progressOf s ≡ Command (commandVerdict s)
-unfolding progressOf
-progress-command s h e = rw (le-ltb (length s) (goal s) h, e)
-
-progress-refusal : (s : List ℕ) → goal s ≤ length s → isLength (lengthField s) ≡ false
-    → progressOf s ≡ Refusal (lengthRefusal (lengthField s))
-unfolding progressOf
-progress-refusal s h e = rw (le-ltb (length s) (goal s) h, e)
-
--- octets at or past their goal: their front up to it has the same goal and length field
-module _ (s : List ℕ) (reached : goal s ≤ length s) where
-  abbrev front : List ℕ
-  front = take (goal s) s
-
-  front-long : length front ≡ goal s
-  front-long = length-take-le (goal s) s reached
-
-  front-four : fieldEnd ≤ length front
-  front-four =
-      let l = front-long in
-      let b = goal-bounds s .0 in
-      omega arith
-
-  front-goal : goal front ≡ goal s
-  front-goal = sym (goal-first front (drop (goal s) s) front-four) ∙ ap goal (take-append-drop (goal s) s)
-
-  front-field : lengthField front ≡ lengthField s
-  front-field =
-      sym (field-first front (drop (goal s) s) front-four) ∙ ap lengthField (take-append-drop (goal s) s)
-
-  front-command : isLength (lengthField s) ≡ true → progressOf front ≡ Command (commandVerdict front)
-  front-command e =
-      let l = front-long in
-      let g = front-goal in
-      progress-command front (omega arith) (rw front-field e)
-
-  front-refusal : isLength (lengthField s) ≡ false → progressOf front ≡ Refusal (lengthRefusal (lengthField s))
-  front-refusal e =
-      let l = front-long in
-      let g = front-goal in
-      progress-refusal front (omega arith) (rw front-field e)
-      ∙ ap (λ (n : ℕ). Refusal (lengthRefusal n)) front-field
 
 -- ---- refused calls
 

@@ -15,7 +15,8 @@ use Rattle.fragments.specs.Link.{fresh, isUsable, heldIn}
 use Rattle.fragments.specs.Run.{Call, verdictsOf, takenBy, restOf, Cutting, AsUncut, callsFor}
 use Rattle.fragments.proofs.Goals.{goal-bounds, fresh-usable}
 use Rattle.fragments.proofs.Follows.{rest-from, stopped-from, follows-of, keeps-of, hands-of, afresh-of, lends-of}
-use Rattle.fragments.proofs.Middle.{Ends, AsUncutFrom, none-from, cut-from}
+use Rattle.fragments.proofs.Middle.{Ends, AsUncutFrom, none-from}
+use Rattle.fragments.proofs.Turns.{cut-from}
 use Rattle.fragments.proofs.Offers.{follows-for, offers-for, ends-for}
 
 -- ---- every cutting
@@ -42,7 +43,7 @@ as-uncut run (c ∷ cs) k end =
 -- too, gives the same verdicts (unfinished and 7009 apart), octets taken in total and unfinished rest as the run
 -- uncut." And "Demand 2 reads per command found": the verdicts uncut are those of the commands that the length fields
 -- cut off.
--- Carried by cut-from (Middle): from every state in the middle, by the calls that are left.
+-- Carried by cut-from (Turns): from every state in the middle, by the calls that are left.
 -- Ruled out: a reader that loses the octets behind a command in a fragment; one whose length field is read from a
 -- fragment's start.
 pub cutting-as-uncut : (run : List ℕ) (calls : List Call) → Cutting run calls → AsUncut run calls
@@ -109,5 +110,6 @@ pub same-for-all-cuttings : (buffer buffer′ : List ℕ) (fragments fragments�
     → longestCommand ≤ length buffer → longestCommand ≤ length buffer′ → joined fragments ≡ joined fragments′
     → Alike (callsFor buffer fragments) (callsFor buffer′ fragments′)
 same-for-all-cuttings buffer buffer′ fragments fragments′ room room′ e =
-    alike (joined fragments) (callsFor buffer fragments) (callsFor buffer′ fragments′) (any-cutting buffer fragments room)
+    alike (joined fragments) (callsFor buffer fragments) (callsFor buffer′ fragments′)
+    (any-cutting buffer fragments room)
     (subst (λ (run : List ℕ). AsUncut run (callsFor buffer′ fragments′)) (sym e) (any-cutting buffer′ fragments′ room′))

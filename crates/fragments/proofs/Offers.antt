@@ -58,7 +58,9 @@ module _ (a : Step) (fragment : List ℕ) (fragments : List (List ℕ)) (within 
         ap joined (next-all h)
         ∙ sym (drop-append-seam fragment (joined fragments))
         ∙ ap (λ (n : ℕ). drop n (fragment ++ joined fragments)) n)
-        (λ e. ap joined (next-again (leb-false _ _ e)) ∙ sym (drop-append-le (a .taken) fragment (joined fragments) within))
+        (λ e.
+        ap joined (next-again (leb-false _ _ e))
+        ∙ sym (drop-append-le (a .taken) fragment (joined fragments) within))
 
     -- fragments and octets together are fewer than before
     next-fewer : (a .taken < length fragment → 1 ≤ a .taken)
@@ -143,6 +145,7 @@ ends-for (suc n) st buffer (fragment ∷ fragments) room usable h =
     let cs = callsFrom n (a .state) (left c) next in
     let long = buffer-long st fragment buffer in
     let rest = ends-for n (a .state) (left c) next in
+    let none = calls-none n (a .state) (left c) in
     by-cases (eqb (a .state .stopped) 0)
     (λ on.
     let fewer = next-fewer a fragment fragments in-it on (taken-some st fragment buffer room usable) in
@@ -150,4 +153,4 @@ ends-for (suc n) st buffer (fragment ∷ fragments) room usable h =
     (rest (omega arith) (state-usable st fragment buffer room usable ∙ on) (omega arith)))
     (λ off.
     ends-off st fragment buffer fragments cs off
-    (ap (callsFrom n (a .state) (left c)) (next-none a fragment fragments in-it off) ∙ calls-none n (a .state) (left c)))
+    (ap (callsFrom n (a .state) (left c)) (next-none a fragment fragments in-it off) ∙ none))

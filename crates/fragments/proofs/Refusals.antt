@@ -1,4 +1,4 @@
--- The refusals of this entry: their numbers, what a refused call leaves, and a run that has stopped. Above each theorem:
+-- The refusals of a link: their numbers, what a refused call leaves, and a run that has stopped. Above each theorem:
 -- the words of request [7] that it meets, what carries it, and two wrong systems that it rules out.
 use mathlib.Core.Path.{_≡_, refl, sym, ap, _∙_}
 use mathlib.Core.Bool.{Bool, true, false, cond, _||_}
@@ -116,8 +116,8 @@ kept-by number st fragment buffer is =
 -- Carried by onward-meets: a call that goes on is never refused so.
 -- Ruled out: a call that stops the run, or loses what is held, because it was lent too short a buffer once; one that
 -- stores octets of the fragment before it looks at the state.
-pub refused-calls : (st : State) (fragment buffer : List ℕ) (v : Verdict) → step st fragment buffer .progress ≡ Refusal v
-    → (v .number ≡ 7004) ⊎ (v .number ≡ 7009)
+pub refused-calls : (st : State) (fragment buffer : List ℕ) (v : Verdict)
+    → step st fragment buffer .progress ≡ Refusal v → (v .number ≡ 7004) ⊎ (v .number ≡ 7009)
     → (step st fragment buffer .taken ≡ 0)
     × ((step st fragment buffer .state ≡ st) × (bufferAfter st fragment buffer ≡ buffer))
 refused-calls st fragment buffer v e n =
