@@ -81,6 +81,14 @@ module _ (st : State) (fragment buffer : List ℕ) (room : longestCommand ≤ le
         let a = goal-above held fragment (omega arith) in
         omega arith
 
+    -- no octet behind the goal is taken
+    pub taken-to-goal : st .held + step st fragment buffer .taken ≤ goal all
+    unfolding onward takenOf
+    taken-to-goal =
+        let t = ap (λ (t : Step). t .taken) (step-onward st fragment buffer room usable) in
+        let g = goal-over in
+        omega arith
+
     -- what is taken is stored in the buffer
     fits : st .held + takenOf st fragment buffer ≤ length buffer
     unfolding takenOf
