@@ -12,7 +12,7 @@ use Rattle.rules.specs.Header.{longestCommand}
 use Rattle.rules.specs.Book.{joined}
 use Rattle.fragments.specs.declared.State.{State}
 use Rattle.fragments.specs.Link.{fresh, isUsable, heldIn}
-use Rattle.fragments.specs.Run.{Call, verdictsOf, takenBy, restOf, Cutting, AsUncut, callsFor}
+use Rattle.fragments.specs.Run.{Call, verdictsOf, takenBy, restOf, Cutting, AsUncut, callsFrom, callsFor}
 use Rattle.fragments.proofs.Goals.{goal-bounds, fresh-usable}
 use Rattle.fragments.proofs.Follows.{rest-from, stopped-from, follows-of, keeps-of, hands-of, afresh-of, lends-of}
 use Rattle.fragments.proofs.Middle.{Ends, AsUncutFrom, none-from}
@@ -71,16 +71,11 @@ cuttings-alike run calls calls′ k k′ =
 
 -- ---- lists of fragments
 
--- "A capture comes in fragments that end anywhere": every list of fragments makes calls that are a cutting of its
--- octets, so the proviso can be kept for each, and the theorem above is not about nothing.
--- Carried by follows-for, offers-for and ends-for (Offers).
--- Ruled out: a reader that takes nothing of a fragment that it does not refuse, so that it is offered for ever; one
--- whose state after a command cannot be handed back.
-pub fragments-are-a-cutting : (buffer : List ℕ) (fragments : List (List ℕ)) → longestCommand ≤ length buffer
-    → Cutting (joined fragments) (callsFor buffer fragments)
-fragments-are-a-cutting buffer fragments room =
-    let n = length fragments + length (joined fragments) in
-    let calls = callsFor buffer fragments in
+-- as many calls as there are fragments and octets, or more
+cutting-in : (n : ℕ) (buffer : List ℕ) (fragments : List (List ℕ)) → longestCommand ≤ length buffer
+    → length fragments + length (joined fragments) ≤ n → Cutting (joined fragments) (callsFrom n fresh buffer fragments)
+cutting-in n buffer fragments room enough =
+    let calls = callsFrom n fresh buffer fragments in
     let f = follows-for n fresh buffer fragments in
     record {
       starts-afresh = afresh-of buffer calls f;
@@ -90,8 +85,17 @@ fragments-are-a-cutting buffer fragments room =
       offers-again = offers-for n fresh buffer fragments;
       to-the-end =
           ⊎-elim (λ e. inl e) (λ e. inr (stopped-from calls ∙ e))
-          (ends-for n fresh buffer fragments room (fresh-usable buffer) (omega arith));
+          (ends-for n fresh buffer fragments room (fresh-usable buffer) enough);
     }
+
+-- "A capture comes in fragments that end anywhere": every list of fragments makes calls that are a cutting of its
+-- octets, so the proviso can be kept for each, and the theorem above is not about nothing.
+-- Carried by follows-for, offers-for and ends-for (Offers).
+-- Ruled out: a reader that takes nothing of a fragment that it does not refuse, so that it is offered for ever; one
+-- whose state after a command cannot be handed back.
+pub fragments-are-a-cutting : (buffer : List ℕ) (fragments : List (List ℕ)) → longestCommand ≤ length buffer
+    → Cutting (joined fragments) (callsFor buffer fragments)
+fragments-are-a-cutting buffer fragments room = cutting-in _ buffer fragments room (omega arith)
 
 -- Every list of fragments, empty ones too, comes to what its octets give uncut.
 -- Carried by cutting-as-uncut and fragments-are-a-cutting.

@@ -2,7 +2,7 @@
 -- behind it, or has no command.
 use mathlib.Core.Path.{_≡_, refl, sym, ap, _∙_}
 use mathlib.Core.Bool.{true, false, cond, _&&_}
-use mathlib.Core.List.{List, [], _∷_, _++_, map}
+use mathlib.Core.List.{List, [], _∷_}
 use Prim.Native.Nat.{ℕ, zero, suc, _+_, _≤_, _<_}
 use native.Mathlib.Omega.{arith}
 use borrow.Author.Tests.{le-leb, lt-leb, leb-true}
@@ -126,7 +126,7 @@ module _ (s : List ℕ) (e : isWhole s ≡ true) where
 
   pub rest-first : restUncut s ≡ restUncut behind
   unfolding restUncut
-  rest-first = ap (λ (t : List ℕ). cond (stops t) (take fieldEnd t) t) behind-of
+  rest-first = rw behind-of
 
   pub taken-first : takenUncut s ≡ size + takenUncut behind
   unfolding takenUncut
@@ -137,14 +137,7 @@ module _ (s : List ℕ) (e : isWhole s ≡ true) where
 
   pub verdicts-first : verdictsUncut s ≡ commandVerdict (take size s) ∷ verdictsUncut behind
   unfolding verdictsUncut
-  verdicts-first =
-      ap
-      (λ (t : List ℕ). map commandVerdict (commandsOf s) ++ cond (stops t) (lengthRefusal (lengthField t) ∷ []) [])
-      behind-of
-      ∙ ap
-      (λ (cs : List (List ℕ)).
-      map commandVerdict cs ++ cond (stops (behindOf behind)) (lengthRefusal (lengthField (behindOf behind)) ∷ []) [])
-      commands-of
+  verdicts-first = rw (behind-of, commands-of)
 
 -- ---- a run that does not
 
@@ -159,7 +152,7 @@ module _ (s : List ℕ) (e : isWhole s ≡ false) where
 
   rest-by : restUncut s ≡ cond (stops s) (take fieldEnd s) s
   unfolding restUncut
-  rest-by = ap (λ (t : List ℕ). cond (stops t) (take fieldEnd t) t) behind-all
+  rest-by = rw behind-all
 
   taken-by : takenUncut s ≡ length (restUncut s)
   unfolding takenUncut
@@ -167,12 +160,7 @@ module _ (s : List ℕ) (e : isWhole s ≡ false) where
 
   verdicts-by : verdictsUncut s ≡ cond (stops s) (lengthRefusal (lengthField s) ∷ []) []
   unfolding verdictsUncut
-  verdicts-by =
-      ap
-      (λ (t : List ℕ). map commandVerdict (commandsOf s) ++ cond (stops t) (lengthRefusal (lengthField t) ∷ []) [])
-      behind-all
-      ∙ ap (λ (cs : List (List ℕ)). map commandVerdict cs ++ cond (stops s) (lengthRefusal (lengthField s) ∷ []) [])
-      (commands-none (length s))
+  verdicts-by = rw (behind-all, commands-none (length s))
 
 -- all of it is the unfinished rest
 module _ (s : List ℕ) (h : length s < goal s) where
