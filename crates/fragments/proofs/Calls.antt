@@ -23,7 +23,7 @@ use Rattle.fragments.proofs.Goals.{field-first, goal-field, goal-refuse
 abbrev pub offered : State → List ℕ → List ℕ → List ℕ
 offered st fragment buffer = heldIn st buffer ++ fragment
 
--- ---- refused calls
+-- ---- how a call is answered
 
 module _ (st : State) (fragment buffer : List ℕ) where
   pub step-7004 : length buffer < longestCommand → step st fragment buffer ≡ refusedCall 7004 st

@@ -21,16 +21,16 @@ use Rattle.fragments.specs.Link.{state, fresh, isLength, isUsable, goal,
 use Rattle.fragments.proofs.Goals.{fresh-usable, stopped-unusable}
 use Rattle.fragments.proofs.Calls.{offered, step-7004, step-7009, step-onward, nothing-stored, step-unfinished, step-command, step-refusal}
 
--- ---- a test of what a call comes to, by the five ways that it can go
+-- ---- a test of what a call that goes on comes to, in its three ways
 
 module _ (test : Progress → Bool) where
-  -- what it tells of a call that goes on
-  pub record Onward : Type 0 where
+  -- that it holds of whatever a call that goes on comes to
+  pub record HoldsOnward : Type 0 where
     pub none : test Unfinished ≡ true
     pub command : (v : Verdict) → test (Command v) ≡ true
     pub refusal : (n : ℕ) → test (Refusal (lengthRefusal n)) ≡ true
 
-  module _ (all : Onward) (st : State) (fragment buffer : List ℕ) (room : longestCommand ≤ length buffer)
+  module _ (all : HoldsOnward) (st : State) (fragment buffer : List ℕ) (room : longestCommand ≤ length buffer)
       (usable : isUsable st buffer ≡ true)
     where
       abbrev here : List ℕ
@@ -57,7 +57,7 @@ inTable Unfinished = true
 inTable (Command v) = true
 inTable (Refusal v) = isAmong linkNumbers (v .number)
 
-onward-in-table : Onward inTable
+onward-in-table : HoldsOnward inTable
 unfolding linkNumbers
 onward-in-table =
     record {
@@ -94,7 +94,7 @@ notOfCall Unfinished = true
 notOfCall (Command v) = true
 notOfCall (Refusal v) = cond (ofCall (v .number)) false true
 
-onward-not-of-call : Onward notOfCall
+onward-not-of-call : HoldsOnward notOfCall
 onward-not-of-call =
     record {
       none = refl;
@@ -127,9 +127,9 @@ refused-calls st fragment buffer v e n =
     let r : longestCommand ≤ length buffer = ltb-false _ _ room in
     by-cases (isUsable st buffer)
     (λ u.
-    let not : notOfCall (Refusal v) ≡ true =
+    let other : notOfCall (Refusal v) ≡ true =
     ap notOfCall (sym e) ∙ onward-meets notOfCall onward-not-of-call st fragment buffer r u in
-    let f : false ≡ true = rw (of-call (v .number) n) at not in
+    let f : false ≡ true = rw (of-call (v .number) n) at other in
     let z : _≡_ {A = ℕ} 0 1 = cc in
     absurd (omega arith))
     (λ u. kept-by 7009 st fragment buffer (step-7009 st fragment buffer r u)))
