@@ -6,7 +6,7 @@ ghost use mathlib.Core.List.{[], _∷_, _++_};
 ghost use Prim.Native.Nat.{_+_, _≤_, _<_};
 ghost use lib.Dec.{leb};
 ghost use lib.ListN.{length};
-ghost use Rattle.rules.specs.Lines.{decimal, spaced, newline, commandLine, cutLine, endLine};
+ghost use Rattle.rules.specs.Lines.{decimal, spaced, newline, commandLine, cutLine, stoppedLine, endLine};
 ghost use Rattle.lines.specs.Promise.{LinePut, Put, PutWithin, lineRoom};
 use rules::Verdict;
 use rules::limits;
@@ -111,6 +111,19 @@ pub fn put_cut_line(out: &mut [u8], at: usize, ordinal: u64, offset: u64) -> usi
     if has_room(out.len(), at) {
         let cut = put_ordinal_and_offset(out, at, ordinal, offset);
         return put_word(out, cut, b" cut\n");
+    }
+    at
+}
+
+pub fn put_stopped_line(out: &mut [u8], at: usize, ordinal: u64, offset: u64, v: Verdict) -> usize
+    ensures { λ r. ⌜ LinePut (now (out .entry)) at (stoppedLine ordinal offset v) r (now (out .exit)) ⌝ }
+{
+    if has_room(out.len(), at) {
+        let stopped = put_ordinal_and_offset(out, at, ordinal, offset);
+        let number = put_word(out, stopped, b" stopped");
+        let place = put_verdict_number(out, number, v.number);
+        let last = put_verdict_number(out, place, v.place);
+        return put_octet(out, last, b'\n');
     }
     at
 }

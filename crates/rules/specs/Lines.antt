@@ -1,4 +1,5 @@
--- 01, The book and its listing: the lines of a listing that are not fixed text. Book puts them in order.
+-- 01, The book and its listing: the lines of a listing that are not fixed text. Book puts them in order. A stream (02,
+-- [7]) has the same lines, and one more where it stops.
 use Prim.Native.Nat.{ℕ, zero, suc, _+_, _/_, _%_}
 use mathlib.Core.List.{List, [], _∷_, _++_}
 use mathlib.Core.Bool.{cond}
@@ -27,12 +28,15 @@ abbrev pub spaced : List ℕ → List ℕ
 spaced [] = []
 spaced (n ∷ ns) = space ∷ decimal n ++ spaced ns
 
--- the word of the last line, and that of a cut
+-- the words of the last line, of a cut, and of a stream that stops
 abbrev pub endWord : List ℕ
 endWord = text "end"
 
 abbrev pub cutWord : List ℕ
 cutWord = text "cut"
+
+abbrev pub stoppedWord : List ℕ
+stoppedWord = text "stopped"
 
 -- ordinal, offset, number, place, vendor, code
 abbrev pub commandLine : ℕ → ℕ → Verdict → List ℕ
@@ -42,6 +46,13 @@ commandLine ordinal offset v =
 -- ordinal, offset and `cut`
 abbrev pub cutLine : ℕ → ℕ → List ℕ
 cutLine ordinal offset = decimal ordinal ++ (spaced (offset ∷ []) ++ (space ∷ cutWord ++ (newline ∷ [])))
+
+-- ordinal, offset and `stopped` with number and place
+abbrev pub stoppedLine : ℕ → ℕ → Verdict → List ℕ
+stoppedLine ordinal offset v =
+    decimal ordinal
+    ++ (spaced (offset ∷ [])
+    ++ (space ∷ stoppedWord ++ (spaced (v .number ∷ v .place ∷ []) ++ (newline ∷ []))))
 
 -- `end` with commands and acceptances
 abbrev pub endLine : ℕ → ℕ → List ℕ
