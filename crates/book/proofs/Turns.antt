@@ -10,9 +10,11 @@ use lib.Seq.{length-sets}
 use lib.Dec.{eqb}
 use Rattle.rules.specs.declared.Verdict.{Verdict}
 use Rattle.rules.specs.Command.{commandVerdict}
-use Rattle.rules.specs.Book.{lengthOf, isCut, isBook, commandIn, acceptance, commandLine, cutLine, endLine, headLine, notABook, linesFrom, listing, bookHead}
-use Rattle.book.specs.Promise.{ListingPut, Put, PutWithin, HeadPut, linesOf, room}
-use Rattle.book.proofs.Text.{joined}
+use Rattle.rules.specs.Lines.{commandLine, cutLine, endLine}
+use Rattle.rules.specs.Book.{lengthOf, isCut, isBook, commandIn, acceptance, headLine, notABook, linesFrom, listing, bookHead}
+use Rattle.lines.specs.Promise.{Put, PutWithin}
+use Rattle.lines.proofs.Text.{joined}
+use Rattle.book.specs.Promise.{ListingPut, HeadPut, linesOf, room}
 use Rattle.book.proofs.Cuts.{whole, book-head, book-size}
 
 -- ---- the lines from an offset on, with a bound that is enough
@@ -83,21 +85,22 @@ module _ {book before : List ℕ} {start : ℕ} where
       turn-cut e {r} {after} p = t .rest r after (rw (lines-cut book offset commands accepted (t .bound) (t .enough) more e) p)
 
       pub next-turn : isCut book offset ≡ false → {v : Verdict} → v ≡ commandVerdict (commandIn book offset)
-          → {r : ℕ} {after : List ℕ} → PutWithin 66 out at (commandLine (commands + 1) offset v) r after
+          → length (commandLine (commands + 1) offset v) ≤ 66
+          → {r : ℕ} {after : List ℕ} → Put out at (commandLine (commands + 1) offset v) r after
           → LinesLeft book before start after r (offset + lengthOf book offset) (commands + 1) (accepted + acceptance v)
-      next-turn e {v} same {r} {after} p =
+      next-turn e {v} same short {r} {after} p =
           let w = whole book offset e in
           let one : acceptance v ≤ 1 = acceptance-small v in
           record {
             inside = omega arith;
-            fits = omega arith;
+            fits = omega (arith, p .next, short);
             few = omega arith;
             passed = omega arith;
             bound = t .bound - 1;
             enough = omega (arith, t .enough);
             rest = λ r' after' q.
                 t .rest r' after'
-                (rw (lines-command book offset commands accepted (t .bound) (t .enough) more e, ← same) (joined (p .put) q));
+                (rw (lines-command book offset commands accepted (t .bound) (t .enough) more e, ← same) (joined p q));
           }
 
 -- ---- the whole listing

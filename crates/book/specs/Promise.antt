@@ -1,8 +1,8 @@
--- What the functions of the listing promise. A listing is text that is put piece by piece into octets that the caller
--- lends, so every function that puts text makes the same promise of its piece.
+-- What the functions of the listing promise. Those that put a part of it make the promises of `lines` for a piece of
+-- text.
 use mathlib.Core.Path.{_≡_}
 use mathlib.Core.List.{List}
-use Prim.Native.Nat.{ℕ, _+_, _≤_}
+use Prim.Native.Nat.{ℕ, _≤_}
 use lib.ListN.{length}
 use lib.Seq.{sets}
 use Rattle.rules.specs.Book.{listing, linesFrom, bookHead, longestBook}
@@ -16,16 +16,6 @@ pub record ListingPut (book before : List ℕ) (r : ℕ) (after : List ℕ) : Ty
   pub count : r ≡ length (listing book)
   pub octets : after ≡ sets before 0 (listing book)
   pub within : r ≤ room
-
--- text put from a place on: the place behind it, and its octets, the rest untouched
-pub record Put (before : List ℕ) (at : ℕ) (text : List ℕ) (r : ℕ) (after : List ℕ) : Type 0 where
-  pub next : r ≡ at + length text
-  pub octets : after ≡ sets before at text
-
--- the same, with a bound on the text for the next piece
-pub record PutWithin (most : ℕ) (before : List ℕ) (at : ℕ) (text : List ℕ) (r : ℕ) (after : List ℕ) : Type 0 where
-  pub put : Put before at text r after
-  pub within : r ≤ at + most
 
 -- the lines behind the head line
 abbrev pub linesOf : List ℕ → List ℕ

@@ -12,7 +12,8 @@ use lib.Seq.{take-append-seam, drop-append-seam, drop-drop}
 use Rattle.rules.specs.Octets.{numberAt}
 use Rattle.rules.specs.Header.{headerSize}
 use Rattle.rules.specs.Command.{commandVerdict}
-use Rattle.rules.specs.Book.{commandLine, cutLine, endLine, lengthOf, isCut, commandIn, acceptance, linesFrom, BookCommand, AllBookCommands, CutOff, joined, commandLines, acceptedOf}
+use Rattle.rules.specs.Lines.{commandLine, cutLine, endLine}
+use Rattle.rules.specs.Book.{lengthOf, isCut, commandIn, acceptance, linesFrom, BookCommand, AllBookCommands, CutOff, joined, commandLines, acceptedOf}
 use Rattle.rules.proofs.Octets.{numberAt-part}
 use Rattle.rules.proofs.Tests.{or-right}
 use Rattle.rules.proofs.Walk.{by-cases}

@@ -16,7 +16,8 @@ use Rattle.rules.specs.Header.{headerSize}
 use Rattle.rules.specs.Dictionary.{Entry, dictionary}
 use Rattle.rules.specs.Walk.{Standing, checked, Walked, whole, stopped, after, andThen, inGroup, behind, walkAvp, walkList}
 use Rattle.rules.specs.Command.{commandVerdict, ownList, walkOf}
-use Rattle.rules.specs.Book.{headLine, commandLine, lengthOf, isCut, commandIn, acceptance, linesFrom, bookHead, isBook, listing}
+use Rattle.rules.specs.Lines.{commandLine}
+use Rattle.rules.specs.Book.{headLine, lengthOf, isCut, commandIn, acceptance, linesFrom, bookHead, isBook, listing}
 use Rattle.rules.proofs.Tests.{neither}
 use Rattle.rules.proofs.Walk.{by-cases, avp-fault, avp-plain, avp-group, list-end, list-more}
 use Rattle.rules.proofs.Passed.{InFrame, plain-framed, group-framed}

@@ -1,7 +1,8 @@
--- 01, The book and its listing: the listing is the octets that `verdicts` prints.
+-- 01, The book and its listing: the listing is the octets that `verdicts` prints. Its lines for commands, for a cut and
+-- for the end are in Lines.
 use mathlib.Core.Path.{_≡_}
 use mathlib.Core.Logic.{_⊎_}
-use Prim.Native.Nat.{ℕ, zero, suc, _+_, _-_, _/_, _%_, _≤_, _<_}
+use Prim.Native.Nat.{ℕ, zero, suc, _+_, _-_, _≤_, _<_}
 use mathlib.Core.List.{List, [], _∷_, _++_}
 use mathlib.Core.Bool.{Bool, cond, not, _&&_, _||_}
 use lib.ListN.{length, take, drop}
@@ -12,55 +13,15 @@ use Rattle.rules.specs.Text.{text}
 use Rattle.rules.specs.Verdict.{isAccepted}
 use Rattle.rules.specs.Header.{headerSize}
 use Rattle.rules.specs.Command.{commandVerdict}
-
--- a number in decimal; the first argument bounds its digits
-unfoldable pub digits : ℕ → ℕ → List ℕ
-digits zero n = []
-digits (suc k) n = cond (ltb n 10) ((48 + n) ∷ []) (digits k (n / 10) ++ ((48 + n % 10) ∷ []))
-
--- every number of a listing has at most ten digits
-abbrev pub decimal : ℕ → List ℕ
-decimal n = digits 10 n
-
--- the octets between numbers and behind a line
-abbrev pub space : ℕ
-space = 32
-
-abbrev pub newline : ℕ
-newline = 10
-
--- numbers in decimal, each behind one space
-abbrev pub spaced : List ℕ → List ℕ
-spaced [] = []
-spaced (n ∷ ns) = space ∷ decimal n ++ spaced ns
+use Rattle.rules.specs.Lines.{commandLine, cutLine, endLine}
 
 -- the first line
 abbrev pub headLine : List ℕ
 headLine = text "NTB 1\n"
 
--- the word of the last line, and that of a cut
-abbrev pub endWord : List ℕ
-endWord = text "end"
-
-abbrev pub cutWord : List ℕ
-cutWord = text "cut"
-
 -- the only line of what is no book
 abbrev pub notABook : List ℕ
 notABook = text "not a book\n"
-
--- ordinal, offset, number, place, vendor, code
-abbrev pub commandLine : ℕ → ℕ → Verdict → List ℕ
-commandLine ordinal offset v =
-    decimal ordinal ++ (spaced (offset ∷ v .number ∷ v .place ∷ v .vendor ∷ v .code ∷ []) ++ (newline ∷ []))
-
--- ordinal, offset and `cut`
-abbrev pub cutLine : ℕ → ℕ → List ℕ
-cutLine ordinal offset = decimal ordinal ++ (spaced (offset ∷ []) ++ (space ∷ cutWord ++ (newline ∷ [])))
-
--- `end` with commands and acceptances
-abbrev pub endLine : ℕ → ℕ → List ℕ
-endLine commands accepted = endWord ++ (spaced (commands ∷ accepted ∷ []) ++ (newline ∷ []))
 
 -- the length field of the command at an offset
 abbrev pub lengthOf : List ℕ → ℕ → ℕ

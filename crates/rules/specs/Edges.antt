@@ -19,7 +19,8 @@ use Rattle.rules.specs.RowChecks.{admissionFrom, memberOutcome, missingF
 use Rattle.rules.specs.Search.{firstFrom}
 use Rattle.rules.specs.Exchange.{volume, firstRequest, laterRequest, requestOutcome, resultOutcome, policiesOutcome, policyOutcome, eachPolicy, answerOutcome, windowOutcome, eachWindow, exchangeOutcome}
 use Rattle.rules.specs.Command.{walkOf, listsOutcome, commandOutcome, commandVerdict}
-use Rattle.rules.specs.Book.{digits, isCut, linesFrom, isBook, listing}
+use Rattle.rules.specs.Lines.{digits}
+use Rattle.rules.specs.Book.{isCut, linesFrom, isBook, listing}
 
 -- a header with this version, length field, command flags and application; the identifiers are 1 and 2
 unfoldable pub header : ℕ → ℕ → ℕ → ℕ → List ℕ

@@ -29,7 +29,8 @@ pub mod Demands
 pub mod Order
 -- beyond 01: the canonical form of a command, which names a state
 pub mod Canonical
--- The book and its listing
+-- The book and its listing: the lines, and the whole
+pub mod Lines
 pub mod Book
 -- Commands at the edges, computed
 pub mod Edges

@@ -35,3 +35,6 @@ pub const BOOK_HEAD: usize = 5;
 pub const LONGEST_BOOK: usize = 65536;
 
 pub const LISTING_ROOM: usize = 262144;
+
+// The room in which every line fits, also with numbers of 64 bits.
+pub const LINE_ROOM: usize = 96;

@@ -4,8 +4,10 @@ use mathlib.Core.Path.{sym, _∙_}
 use Prim.Native.Nat.{_+_, _-_}
 use native.Mathlib.Omega.{arith}
 use lib.ListN.{length}
-use Rattle.rules.specs.Book.{commandLine, endLine}
-use Rattle.book.specs.Promise.{Put, PutWithin}
+use Rattle.rules.specs.Lines.{commandLine}
+use Rattle.lines.specs.Promise.{Put}
+use Rattle.lines.proofs.Text.{line-fits}
+use Rattle.lines.proofs.Lines.{command-line-short}
 use Rattle.book.proofs.Cuts.{whole}
 use Rattle.book.proofs.Turns.{LinesLeft, first-turn, turn-cut, next-turn, turn-end, acceptance-small}
 use Rattle.book.proofs.put_lines.Statement.{statement}
@@ -26,9 +28,6 @@ is-cut-requires c κs = search needs
 add-put-cut-line : tie.Need-add-put-cut-line Inv-loop μ-loop
 add-put-cut-line c = search needs
 
-cast-put-cut-line : tie.Need-cast-put-cut-line Inv-loop μ-loop
-cast-put-cut-line c = search needs
-
 put-cut-line-requires : tie.Need-put-cut-line-requires Inv-loop μ-loop
 put-cut-line-requires c κs = search needs
 
@@ -36,11 +35,11 @@ returns : tie.Need-returns Inv-loop μ-loop
 returns c =
     let i = c .before .before .before in
     let l = i .before in
+    let inv = l .before .loop .inv in
+    let line = line-fits (omega arith) (c .put-cut-line .ensures) in
     record {
-      put =
-          turn-cut (l .before .loop .inv) (l .loop-test .taken) (sym (i .is-cut .ensures) ∙ c .before .before .if1 .taken)
-          (c .put-cut-line .ensures .put);
-      within = search needs;
+      put = turn-cut inv (l .loop-test .taken) (sym (i .is-cut .ensures) ∙ c .before .before .if1 .taken) (line .put);
+      within = omega (arith, line .within, inv .fits, inv .inside, l .before .before .before .pre .short);
     }
 
 verdict-at-requires : tie.Need-verdict-at-requires Inv-loop μ-loop
@@ -48,9 +47,6 @@ verdict-at-requires c κs = (search needs, sym (c .before .before .is-cut .ensur
 
 add-commands : tie.Need-add-commands Inv-loop μ-loop
 add-commands c = search needs
-
-cast-put-command-line : tie.Need-cast-put-command-line Inv-loop μ-loop
-cast-put-command-line c = search needs
 
 put-command-line-requires : tie.Need-put-command-line-requires Inv-loop μ-loop
 put-command-line-requires c κs = search needs
@@ -90,11 +86,17 @@ loop-again c =
     let e = v .before .before in
     let l = e .before .before in
     let o = l .before .loop in
-    let line : PutWithin 66 (o .out) (o .at) (commandLine (o .commands + 1) (o .offset) (v .verdict-at .result))
-    (p .put-command-line .result) (p .put-command-line .last .0) = p .put-command-line .ensures in
+    let result = v .verdict-at .result in
+    let line : Put (o .out) (o .at) (commandLine (o .commands + 1) (o .offset) result) (p .put-command-line .result)
+    (p .put-command-line .last .0) = line-fits (omega arith) (p .put-command-line .ensures) .put in
+    -- each field of the verdict has 32 bits
+    let fields = v .verdict-at .ok .1 .1 in
+    let short =
+    command-line-short (o .commands + 1) (o .offset) result (omega arith) (omega arith) (fields .0 .1) (fields .1 .0 .1)
+    (fields .1 .1 .0 .1) (fields .1 .1 .1 .0 .1) in
     rw (c .number3 .ensures .is, a .acceptance-of .ensures)
     (next-turn (o .inv) (l .loop-test .taken) (sym (e .before .is-cut .ensures) ∙ e .if1 .left) (v .verdict-at .ensures)
-    line)
+    short line)
 
 put-end-line-requires : tie.Need-put-end-line-requires Inv-loop μ-loop
 put-end-line-requires c κs = search needs
@@ -103,11 +105,10 @@ returns-2 : tie.Need-returns-2 Inv-loop μ-loop
 returns-2 c =
     let l = c .before .before in
     let o = l .before .loop in
-    let line : Put (o .out) (o .at) (endLine (o .commands) (o .accepted)) (c .put-end-line .result)
-    (c .put-end-line .last .0) = c .put-end-line .ensures .put in
+    let line = line-fits (omega arith) (c .put-end-line .ensures) in
     record {
-      put = turn-end (o .inv) (l .loop-test .left) line;
-      within = search needs;
+      put = turn-end (o .inv) (l .loop-test .left) (line .put);
+      within = omega (arith, line .within, o .inv .fits, o .inv .inside, l .before .before .before .pre .short);
     }
 
 pub put-lines-spec : {M : Type 1} → statement M
@@ -119,12 +120,10 @@ put-lines-spec =
     loop-holds
     is-cut-requires
     add-put-cut-line
-    cast-put-cut-line
     put-cut-line-requires
     returns
     verdict-at-requires
     add-commands
-    cast-put-command-line
     put-command-line-requires
     acceptance-of-requires
     add-accepted

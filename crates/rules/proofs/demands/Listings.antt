@@ -12,7 +12,8 @@ use lib.ListN.{length, take, drop, length-append, length-drop, take-append-drop}
 use lib.Seq.{length-take-le}
 use Rattle.rules.specs.Octets.{AreOctets, numberAt}
 use Rattle.rules.specs.Header.{headerSize}
-use Rattle.rules.specs.Book.{headLine, cutLine, endLine, lengthOf, bookHead, longestBook, isBook, listing, notABook, BookCommand, AllBookCommands, CutOff, joined, bookOf, Parted, NoBook, commandLines, acceptedOf}
+use Rattle.rules.specs.Lines.{cutLine, endLine}
+use Rattle.rules.specs.Book.{headLine, lengthOf, bookHead, longestBook, isBook, listing, notABook, BookCommand, AllBookCommands, CutOff, joined, bookOf, Parted, NoBook, commandLines, acceptedOf}
 use Rattle.rules.proofs.Octets.{numberAt-in, numberAt-part, numberAt-digits}
 use Rattle.rules.proofs.Tests.{and-true}
 use Rattle.rules.proofs.Walk.{by-cases}

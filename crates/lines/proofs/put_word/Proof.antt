@@ -1,12 +1,13 @@
--- `book::put_word` meets its contract: before each turn the front of the word is put.
+-- `lines::put_word` meets its contract: before each turn the front of the word is put.
 use Prim.Native.Nat.{_+_, _-_, _≤_}
 use borrow.Author.Needs.{needs}
+use native.Mathlib.Omega.{arith}
 use lib.ListN.{length, take}
 use lib.Seq.{take-all}
-use Rattle.book.specs.Promise.{Put}
-use Rattle.book.proofs.Text.{put-nothing, put-more}
-use Rattle.book.proofs.put_word.Statement.{statement}
-use Rattle.book.proofs.put_word.Tie as tie
+use Rattle.lines.specs.Promise.{Put}
+use Rattle.lines.proofs.Text.{put-nothing, put-more, put-length}
+use Rattle.lines.proofs.put_word.Statement.{statement}
+use Rattle.lines.proofs.put_word.Tie as tie
 
 abbrev Inv-loop : tie.InvT-loop
 Inv-loop out₀ at word i₀ out i = (i ≤ length word) × Put out₀ at (take i word) (at + i) out
@@ -23,8 +24,10 @@ shared-slice-read-out c = search needs
 add-out : tie.Need-add-out Inv-loop μ-loop
 add-out c = search needs
 
-element-write-out : tie.Need-element-write-out Inv-loop μ-loop
-element-write-out c = search needs
+slice-write-out : tie.Need-slice-write-out Inv-loop μ-loop
+slice-write-out c =
+    let l = c .before .before in
+    omega (arith, put-length (l .loop .inv .1), l .before .pre)
 
 add-i : tie.Need-add-i Inv-loop μ-loop
 add-i c = search needs
@@ -40,6 +43,9 @@ loop-again c =
 add-result : tie.Need-add-result Inv-loop μ-loop
 add-result c = search needs
 
+same-length : tie.Need-same-length Inv-loop μ-loop
+same-length c = put-length (c .before .loop .inv .1)
+
 returns : tie.Need-returns Inv-loop μ-loop
 returns c = rw (take-all _ _ (c .loop-test .left)) at (c .before .loop .inv .1)
 
@@ -52,9 +58,10 @@ put-word-spec =
     loop-holds
     shared-slice-read-out
     add-out
-    element-write-out
+    slice-write-out
     add-i
     loop-less
     loop-again
     add-result
+    same-length
     returns)

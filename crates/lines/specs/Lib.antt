@@ -1,0 +1,2 @@
+-- What the lines of a listing promise.
+pub mod Promise
