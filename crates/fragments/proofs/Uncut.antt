@@ -114,13 +114,13 @@ module _ (s : List ℕ) (e : isWhole s ≡ true) where
   pub commands-of : commandsOf s ≡ take size s ∷ commandsOf behind
   commands-of = commands-first (length s) (omega arith)
 
-  joined-long : length (joined (commandsOf s)) ≡ size + length (joined (commandsOf behind))
+  pub joined-long : length (joined (commandsOf s)) ≡ size + length (joined (commandsOf behind))
   joined-long =
       ap (λ (cs : List (List ℕ)). length (joined cs)) commands-of
       ∙ length-append (take size s) (joined (commandsOf behind))
       ∙ ap (λ (n : ℕ). n + length (joined (commandsOf behind))) (length-take-le size s (whole s e .within))
 
-  behind-of : behindOf s ≡ behindOf behind
+  pub behind-of : behindOf s ≡ behindOf behind
   behind-of =
       ap (λ (n : ℕ). drop n s) joined-long ∙ sym (drop-drop (length (joined (commandsOf behind))) size s)
 
@@ -142,12 +142,12 @@ module _ (s : List ℕ) (e : isWhole s ≡ true) where
 -- ---- a run that does not
 
 module _ (s : List ℕ) (e : isWhole s ≡ false) where
-  commands-none : (n : ℕ) → commandsIn n s ≡ []
+  pub commands-none : (n : ℕ) → commandsIn n s ≡ []
   unfolding commandsIn
   commands-none zero = refl
   commands-none (suc n) = rw e
 
-  behind-all : behindOf s ≡ s
+  pub behind-all : behindOf s ≡ s
   behind-all = ap (λ (cs : List (List ℕ)). drop (length (joined cs)) s) (commands-none (length s))
 
   rest-by : restUncut s ≡ cond (stops s) (take fieldEnd s) s
@@ -175,11 +175,11 @@ module _ (s : List ℕ) (h : length s < goal s) where
 
 -- or it stops there
 module _ (s : List ℕ) (four : fieldEnd ≤ length s) (e : isLength (lengthField s) ≡ false) where
-  stopped-not-whole : isWhole s ≡ false
+  pub stopped-not-whole : isWhole s ≡ false
   unfolding isWhole
   stopped-not-whole = rw (le-leb fieldEnd (length s) four, e)
 
-  is-stopped : stops s ≡ true
+  pub is-stopped : stops s ≡ true
   unfolding stops
   is-stopped = rw (le-leb fieldEnd (length s) four, e)
 
