@@ -13,7 +13,8 @@ use Rattle.rules.specs.Book.{joined}
 use Rattle.fragments.specs.declared.State.{State}
 use Rattle.fragments.specs.Link.{fresh, isUsable, heldIn}
 use Rattle.fragments.specs.Run.{Call, verdictsOf, takenBy, restOf, Cutting, AsUncut, callsFrom, callsFor}
-use Rattle.fragments.proofs.Goals.{goal-bounds, fresh-usable}
+use Rattle.fragments.proofs.Goals.{goal-bounds}
+use Rattle.fragments.proofs.Usable.{fresh-usable}
 use Rattle.fragments.proofs.Follows.{rest-from, stopped-from, follows-of, keeps-of, hands-of, afresh-of, lends-of}
 use Rattle.fragments.proofs.Middle.{Ends, AsUncutFrom, none-from}
 use Rattle.fragments.proofs.Turns.{cut-from}

@@ -11,9 +11,9 @@ use lib.ListN.{length, drop, length-append, length-drop}
 use Rattle.rules.specs.Header.{longestCommand}
 use Rattle.fragments.specs.declared.State.{State}
 use Rattle.fragments.specs.declared.Step.{Step}
-use Rattle.fragments.specs.Link.{state, isUsable, goal, heldIn}
+use Rattle.fragments.specs.Link.{isUsable, goal, heldIn}
 use Rattle.fragments.specs.Run.{Call, answer, left, verdictsOf, takenBy, verdictsUncut, restUncut, takenUncut, Begins, OffersAgain}
-use Rattle.fragments.proofs.Goals.{usable-short}
+use Rattle.fragments.proofs.Usable.{usable-short}
 use Rattle.fragments.proofs.Calls.{offered, buffer-long}
 use Rattle.fragments.proofs.Uncut.{verdicts-short, rest-short, taken-short}
 use Rattle.fragments.proofs.Follows.{Follows, heldFrom, stoppedFrom}
