@@ -89,6 +89,10 @@ module _ (st : State) (fragment buffer : List ℕ) (room : longestCommand ≤ le
         let b = goal-bounds all .1 in
         omega arith
 
+    pub taken-is : step st fragment buffer .taken ≡ takenOf st fragment buffer
+    unfolding onward
+    taken-is = ap (λ (a : Step). a .taken) (step-onward st fragment buffer room usable)
+
     -- what is taken lies in the fragment and fits into the buffer
     taken-in-fragment : takenOf st fragment buffer ≤ length fragment
     unfolding takenOf
@@ -104,12 +108,10 @@ module _ (st : State) (fragment buffer : List ℕ) (room : longestCommand ≤ le
     -- the octets held with those taken stand at the buffer's start
     pub held-after : take (length (heldWith st fragment buffer)) (bufferAfter st fragment buffer)
         ≡ heldWith st fragment buffer
-    unfolding onward
     held-after =
         let t = takenOf st fragment buffer in
         let s = heldWith st fragment buffer in
-        ap (λ (a : Step). take (length s) (sets buffer (st .held) (take (a .taken) fragment)))
-        (step-onward st fragment buffer room usable)
+        ap (λ (n : ℕ). take (length s) (sets buffer (st .held) (take n fragment))) taken-is
         ∙ ap (λ (n : ℕ). take n (sets buffer (st .held) (take t fragment)))
         (start-long (st .held) fragment buffer t taken-in-fragment taken-in-buffer)
         ∙ stored-start (st .held) fragment buffer t taken-in-fragment taken-in-buffer
@@ -228,8 +230,8 @@ module _ (st : State) (fragment buffer : List ℕ) (room : longestCommand ≤ le
 
     -- where octets of the fragment are left, some are taken
     pub taken-some : step st fragment buffer .taken < length fragment → 1 ≤ step st fragment buffer .taken
-    unfolding onward takenOf
+    unfolding takenOf
     taken-some =
         let g = goal-over in
-        let t = ap (λ (t : Step). t .taken) (step-onward st fragment buffer room usable) in
+        let t = taken-is in
         λ h. omega arith

@@ -13,7 +13,7 @@ use Rattle.fragments.specs.declared.Progress.the-variants.{Unfinished}
 use Rattle.fragments.specs.Link.{state, stepBy, isUsable, goal, takenOf, onward, refusedCall, step}
 use Rattle.fragments.specs.Promise.{logBy, CanTake, TakenFrom, Taken}
 use Rattle.fragments.proofs.Usable.{usable-short}
-use Rattle.fragments.proofs.Calls.{offered, offered-long, step-onward, step-unfinished}
+use Rattle.fragments.proofs.Calls.{offered, offered-long, taken-is, step-onward, step-unfinished}
 
 -- ---- what `take` gives
 
@@ -53,19 +53,15 @@ module _ (held : ℕ) (fragment buffer : List ℕ) (can : CanTake held buffer) w
       (octets : after ≡ sets buffer held (take (a .taken) fragment))
       (scratch : log′ ≡ logBy (a .progress) (take held buffer ++ take (a .taken) fragment) log)
     where
-      onward-is : a ≡ onward st fragment buffer
-      onward-is = sym is ∙ step-onward st fragment buffer (can .room) (can .usable)
-
-      taken-is : a .taken ≡ takenOf st fragment buffer
-      unfolding onward
-      taken-is = ap (λ (t : Step). t .taken) onward-is
+      count : a .taken ≡ takenOf st fragment buffer
+      count = ap (λ (t : Step). t .taken) (sym is) ∙ taken-is st fragment buffer (can .room) (can .usable)
 
       pub taken-from : TakenFrom held fragment buffer log r after log′
       taken-from =
           record {
-            answer = same ∙ onward-is;
-            octets = octets ∙ ap (λ (n : ℕ). sets buffer held (take n fragment)) taken-is;
-            scratch = scratch ∙ rw (same, taken-is);
+            answer = same ∙ sym is ∙ step-onward st fragment buffer (can .room) (can .usable);
+            octets = octets ∙ ap (λ (n : ℕ). sets buffer held (take n fragment)) count;
+            scratch = scratch ∙ rw (same, count);
           }
 
   -- a fragment that ends short of the goal: all of it is taken
