@@ -93,20 +93,24 @@ module _ (st : State) (fragment buffer : List ℕ) (room : longestCommand ≤ le
     unfolding onward
     taken-is = ap (λ (a : Step). a .taken) (step-onward st fragment buffer room usable)
 
+    -- no octet behind the goal is taken
+    taken-to-goal : st .held + takenOf st fragment buffer ≤ goal all
+    unfolding takenOf
+    taken-to-goal = let g = goal-over in omega arith
+
     -- what is taken lies in the fragment and fits into the buffer
     taken-in-fragment : takenOf st fragment buffer ≤ length fragment
     unfolding takenOf
     taken-in-fragment = omega arith
 
     taken-in-buffer : st .held + takenOf st fragment buffer ≤ length buffer
-    unfolding takenOf
     taken-in-buffer =
-        let g = goal-over in
+        let t = taken-to-goal in
         let b = goal-bounds all .1 in
         omega arith
 
     -- the octets held with those taken stand at the buffer's start
-    pub held-after : take (length (heldWith st fragment buffer)) (bufferAfter st fragment buffer)
+    held-after : take (length (heldWith st fragment buffer)) (bufferAfter st fragment buffer)
         ≡ heldWith st fragment buffer
     held-after =
         let t = takenOf st fragment buffer in
@@ -129,7 +133,7 @@ module _ (st : State) (fragment buffer : List ℕ) (room : longestCommand ≤ le
       unfolding takenOf
       taken-all = let l = offered-long in omega arith
 
-      pub held-all : heldWith st fragment buffer ≡ all
+      held-all : heldWith st fragment buffer ≡ all
       held-all =
           ap (λ (n : ℕ). held ++ take n fragment) taken-all
           ∙ ap (λ (l : List ℕ). held ++ l) (take-length fragment)
@@ -158,7 +162,7 @@ module _ (st : State) (fragment buffer : List ℕ) (room : longestCommand ≤ le
           let g = goal-over in
           omega arith
 
-      pub held-goal : heldWith st fragment buffer ≡ take (goal all) all
+      held-goal : heldWith st fragment buffer ≡ take (goal all) all
       held-goal =
           let g = goal-over in
           let l = held-many in
