@@ -1,14 +1,14 @@
 -- Laws of one call: what it takes of a fragment, what that comes to, and what the buffer holds afterwards. The octets
 -- offered are those held, then the fragment.
-use mathlib.Core.Path.{_≡_, refl, sym, ap, _∙_}
+use mathlib.Core.Path.{_≡_, sym, ap, _∙_}
 use mathlib.Core.Bool.{true, false}
 use mathlib.Core.List.{List, _++_}
 use Prim.Native.Nat.{ℕ, _+_, _-_, _≤_, _<_}
 use native.Mathlib.Omega.{arith}
 use borrow.Author.Tests.{lt-ltb, le-ltb, ltb-true, ltb-false}
 use lib.Dec.{ltb, eqb}
-use lib.ListN.{length, take, drop, length-append}
-use lib.Seq.{take-append-le, take-append-add, take-length, take-at, length-take-le, sets, sets-eq, length-sets}
+use lib.ListN.{length, take, length-append}
+use lib.Seq.{take-append-add, take-length, length-take-le, sets, length-sets}
 use Rattle.rules.specs.Header.{lengthField, longestCommand}
 use Rattle.rules.specs.Command.{commandVerdict}
 use Rattle.rules.proofs.Walk.{by-cases}
@@ -17,8 +17,10 @@ use Rattle.fragments.specs.declared.Progress.{Progress}
 use Rattle.fragments.specs.declared.Progress.the-variants.{Unfinished, Command, Refusal}
 use Rattle.fragments.specs.declared.Step.{Step}
 use Rattle.fragments.specs.Link.{state, fresh, fieldEnd, isLength, isUsable, goal, lengthRefusal, progressOf, stateAfter, heldIn, takenOf, heldWith, onward, refusedCall, step, bufferAfter}
+use Rattle.fragments.proofs.Goals.{goal-field, goal-refused, goal-bounds, goal-above}
+use Rattle.fragments.proofs.Usable.{usable-short, short-usable, fresh-usable, stopped-unusable}
 use Rattle.fragments.proofs.Fronts.{progress-short, front-long, front-command, front-refusal}
-use Rattle.fragments.proofs.Goals.{field-first, goal-field, goal-refused, goal-bounds, goal-above, usable-short, short-usable, fresh-usable, stopped-unusable}
+use Rattle.fragments.proofs.Stored.{start-long, stored-start}
 
 abbrev pub offered : State → List ℕ → List ℕ → List ℕ
 offered st fragment buffer = heldIn st buffer ++ fragment
@@ -81,38 +83,42 @@ module _ (st : State) (fragment buffer : List ℕ) (room : longestCommand ≤ le
         let a = goal-above held fragment (omega arith) in
         omega arith
 
-    -- no octet behind the goal is taken
-    pub taken-to-goal : st .held + step st fragment buffer .taken ≤ goal all
-    unfolding onward takenOf
-    taken-to-goal =
-        let t = ap (λ (t : Step). t .taken) (step-onward st fragment buffer room usable) in
-        let g = goal-over in
-        omega arith
-
-    -- what is taken is stored in the buffer
-    fits : st .held + takenOf st fragment buffer ≤ length buffer
-    unfolding takenOf
-    fits =
+    pub held-below : st .held < longestCommand
+    held-below =
         let g = goal-over in
         let b = goal-bounds all .1 in
         omega arith
 
-    taken-there : length (take (takenOf st fragment buffer) fragment) ≡ takenOf st fragment buffer
+    pub taken-is : step st fragment buffer .taken ≡ takenOf st fragment buffer
+    unfolding onward
+    taken-is = ap (λ (a : Step). a .taken) (step-onward st fragment buffer room usable)
+
+    -- no octet behind the goal is taken
+    taken-to-goal : st .held + takenOf st fragment buffer ≤ goal all
     unfolding takenOf
-    taken-there = length-take-le (takenOf st fragment buffer) fragment (omega arith)
+    taken-to-goal = let g = goal-over in omega arith
+
+    -- what is taken lies in the fragment and fits into the buffer
+    taken-in-fragment : takenOf st fragment buffer ≤ length fragment
+    unfolding takenOf
+    taken-in-fragment = omega arith
+
+    taken-in-buffer : st .held + takenOf st fragment buffer ≤ length buffer
+    taken-in-buffer =
+        let t = taken-to-goal in
+        let b = goal-bounds all .1 in
+        omega arith
 
     -- the octets held with those taken stand at the buffer's start
-    pub held-after : take (length (heldWith st fragment buffer)) (bufferAfter st fragment buffer)
+    held-after : take (length (heldWith st fragment buffer)) (bufferAfter st fragment buffer)
         ≡ heldWith st fragment buffer
-    unfolding onward
     held-after =
-        let vs = take (takenOf st fragment buffer) fragment in
-        let l = taken-there in
-        let k = fits in
-        ap (λ (t : Step). take (length (held ++ vs)) (sets buffer (st .held) (take (t .taken) fragment)))
-        (step-onward st fragment buffer room usable)
-        ∙ ap (take (length (held ++ vs))) (sets-eq vs buffer (st .held) (omega arith))
-        ∙ take-at (held ++ vs) (drop (st .held + length vs) buffer) (length (held ++ vs)) refl
+        let t = takenOf st fragment buffer in
+        let s = heldWith st fragment buffer in
+        ap (λ (n : ℕ). take (length s) (sets buffer (st .held) (take n fragment))) taken-is
+        ∙ ap (λ (n : ℕ). take n (sets buffer (st .held) (take t fragment)))
+        (start-long (st .held) fragment buffer t taken-in-fragment taken-in-buffer)
+        ∙ stored-start (st .held) fragment buffer t taken-in-fragment taken-in-buffer
 
     -- a call that goes on, by what it takes and what it then holds
     onward-is : (n : ℕ) (s : List ℕ) (p : Progress) → takenOf st fragment buffer ≡ n → heldWith st fragment buffer ≡ s
@@ -127,7 +133,7 @@ module _ (st : State) (fragment buffer : List ℕ) (room : longestCommand ≤ le
       unfolding takenOf
       taken-all = let l = offered-long in omega arith
 
-      pub held-all : heldWith st fragment buffer ≡ all
+      held-all : heldWith st fragment buffer ≡ all
       held-all =
           ap (λ (n : ℕ). held ++ take n fragment) taken-all
           ∙ ap (λ (l : List ℕ). held ++ l) (take-length fragment)
@@ -156,7 +162,7 @@ module _ (st : State) (fragment buffer : List ℕ) (room : longestCommand ≤ le
           let g = goal-over in
           omega arith
 
-      pub held-goal : heldWith st fragment buffer ≡ take (goal all) all
+      held-goal : heldWith st fragment buffer ≡ take (goal all) all
       held-goal =
           let g = goal-over in
           let l = held-many in
@@ -183,17 +189,6 @@ module _ (st : State) (fragment buffer : List ℕ) (room : longestCommand ≤ le
           ∙ front-command all reached e
           ∙ ap (λ (n : ℕ). Command (commandVerdict (take n all))) g)
 
-      -- whatever comes later: as many octets from the command's start on as the length field there says
-      pub command-front : (later : List ℕ) → isLength (lengthField all) ≡ true
-          → heldWith st fragment buffer ≡ take (lengthField (all ++ later)) (all ++ later)
-      command-front later e =
-          let b = goal-bounds all .0 in
-          let f = field-first all later (omega arith) in
-          let g = goal-field all (omega arith) e in
-          held-goal
-          ∙ ap (λ (n : ℕ). take n all) (g ∙ sym f)
-          ∙ sym (take-append-le (lengthField (all ++ later)) all later (omega arith))
-
       -- the run stops, with its first four octets held
       pub step-refusal : isLength (lengthField all) ≡ false
           → step st fragment buffer
@@ -209,14 +204,6 @@ module _ (st : State) (fragment buffer : List ℕ) (room : longestCommand ≤ le
           onward-is (fieldEnd - st .held) (take (goal all) all) (Refusal (lengthRefusal (lengthField all)))
           (taken-goal ∙ ap (λ (n : ℕ). n - st .held) g) held-goal (front-refusal all reached e)
           ∙ rw (l, g)
-
-      pub refusal-front : (later : List ℕ) → isLength (lengthField all) ≡ false
-          → heldWith st fragment buffer ≡ take fieldEnd (all ++ later)
-      refusal-front later e =
-          let b = goal-bounds all .0 in
-          held-goal
-          ∙ ap (λ (n : ℕ). take n all) (goal-refused all (omega arith) e)
-          ∙ sym (take-append-le fieldEnd all later (omega arith))
 
       pub refusal-held : isLength (lengthField all) ≡ false
           → take fieldEnd (bufferAfter st fragment buffer) ≡ take fieldEnd all
@@ -243,12 +230,12 @@ module _ (st : State) (fragment buffer : List ℕ) (room : longestCommand ≤ le
         (λ more.
         let h = ltb-false _ _ more in
         by-cases (isLength (lengthField all)) (λ e. by _ (step-command h e) (fresh-usable after))
-        (λ e. by _ (step-refusal h e) (stopped-unusable (state fieldEnd 1) after (omega arith))))
+        (λ e. by _ (step-refusal h e) (stopped-unusable (state fieldEnd 1) after (λ z. omega arith))))
 
     -- where octets of the fragment are left, some are taken
     pub taken-some : step st fragment buffer .taken < length fragment → 1 ≤ step st fragment buffer .taken
-    unfolding onward takenOf
+    unfolding takenOf
     taken-some =
         let g = goal-over in
-        let t = ap (λ (t : Step). t .taken) (step-onward st fragment buffer room usable) in
+        let t = taken-is in
         λ h. omega arith

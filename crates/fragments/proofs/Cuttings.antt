@@ -13,7 +13,8 @@ use Rattle.rules.specs.Book.{joined}
 use Rattle.fragments.specs.declared.State.{State}
 use Rattle.fragments.specs.Link.{fresh, isUsable, heldIn}
 use Rattle.fragments.specs.Run.{Call, verdictsOf, takenBy, restOf, Cutting, AsUncut, callsFrom, callsFor}
-use Rattle.fragments.proofs.Goals.{goal-bounds, fresh-usable}
+use Rattle.fragments.proofs.Goals.{goal-bounds}
+use Rattle.fragments.proofs.Usable.{fresh-usable}
 use Rattle.fragments.proofs.Follows.{rest-from, stopped-from, follows-of, keeps-of, hands-of, afresh-of, lends-of}
 use Rattle.fragments.proofs.Middle.{Ends, AsUncutFrom, none-from}
 use Rattle.fragments.proofs.Turns.{cut-from}
@@ -28,9 +29,7 @@ from-start run calls a =
     record { verdicts = a .verdicts; taken = omega arith; rest = rest-from calls ∙ a .rest }
 
 as-uncut : (run : List ℕ) (calls : List Call) → Cutting run calls → Ends run calls → AsUncutFrom [] run calls
-as-uncut run [] k end =
-    let g = goal-bounds [] .0 in
-    ⊎-elim (λ e. none-from [] run (omega arith) e) (λ e. let z : _≡_ {A = ℕ} 0 1 = cc in absurd (omega arith)) end
+as-uncut run [] k end = let g = goal-bounds [] .0 in none-from [] run (omega arith) end
 as-uncut run (c ∷ cs) k end =
     let s : c .state ≡ fresh = k .starts-afresh in
     let usable : isUsable (c .state) (c .buffer) ≡ true = rw s (fresh-usable (c .buffer)) in

@@ -78,10 +78,10 @@ pub record Nothing (held : List ℕ) (calls : List Call) : Type 0 where
   pub rest : heldFrom held calls ≡ held
 
 module _ (c : Call) (room : longestCommand ≤ length (c .buffer)) (off : isUsable (c .state) (c .buffer) ≡ false) where
-  pub stopped-answer : answer c ≡ refusedCall 7009 (c .state)
+  stopped-answer : answer c ≡ refusedCall 7009 (c .state)
   stopped-answer = step-7009 (c .state) (c .fragment) (c .buffer) room off
 
-  pub stopped-left : left c ≡ c .buffer
+  stopped-left : left c ≡ c .buffer
   stopped-left = nothing-stored (c .state) (c .fragment) (c .buffer) (ap (λ (t : Step). t .taken) stopped-answer)
 
   stopped-held : heldIn (answer c .state) (left c) ≡ heldIn (c .state) (c .buffer)

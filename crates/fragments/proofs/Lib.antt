@@ -1,11 +1,12 @@
--- The laws of a link. One call, as the definitions say it:
+-- The laws of a link. One call:
 pub mod Goals
+pub mod Usable
 pub mod Fronts
+mod Stored
 pub mod Calls
--- and as code makes it:
-mod Steps
-mod Ends
-mod Answers
+-- what the functions promise of it:
+mod Promises
+mod Fills
 -- the run uncut:
 pub mod Uncut
 -- a run in calls, from its middle on:

@@ -11,9 +11,9 @@ use lib.ListN.{length, drop, length-append, length-drop}
 use Rattle.rules.specs.Header.{longestCommand}
 use Rattle.fragments.specs.declared.State.{State}
 use Rattle.fragments.specs.declared.Step.{Step}
-use Rattle.fragments.specs.Link.{state, isUsable, goal, heldIn}
+use Rattle.fragments.specs.Link.{isUsable, goal, heldIn}
 use Rattle.fragments.specs.Run.{Call, answer, left, verdictsOf, takenBy, verdictsUncut, restUncut, takenUncut, Begins, OffersAgain}
-use Rattle.fragments.proofs.Goals.{usable-short}
+use Rattle.fragments.proofs.Usable.{usable-short}
 use Rattle.fragments.proofs.Calls.{offered, buffer-long}
 use Rattle.fragments.proofs.Uncut.{verdicts-short, rest-short, taken-short}
 use Rattle.fragments.proofs.Follows.{Follows, heldFrom, stoppedFrom}
@@ -35,22 +35,25 @@ Claim calls =
 
 -- ---- no call: nothing is left of the run
 
-pub none-from : (held run : List ℕ) → length held < goal held → 0 ≡ length run → AsUncutFrom held run []
-none-from held [] h e =
+nothing-left : (held run : List ℕ) → length held < goal held → 0 ≡ length run → AsUncutFrom held run []
+nothing-left held [] h e =
     record {
       verdicts = sym (rw (append-nil held) (verdicts-short held h));
       taken = rw (append-nil held) (let t = taken-short held h in omega arith);
       rest = sym (rw (append-nil held) (rest-short held h));
     }
-none-from held (x ∷ xs) h e = absurd (omega arith)
+nothing-left held (x ∷ xs) h e = absurd (omega arith)
+
+pub none-from : (held run : List ℕ) → length held < goal held → Ends run [] → AsUncutFrom held run []
+none-from held run h =
+    ⊎-elim (nothing-left held run h) (λ e. let z : _≡_ {A = ℕ} 0 1 = cc in absurd (omega arith))
 
 pub no-calls : Claim []
 no-calls st buffer run room usable f o end =
     let s = usable-short st buffer room usable in
     let l = s .many in
     let b = s .below in
-    ⊎-elim (λ e. none-from (heldIn st buffer) run (omega arith) e)
-    (λ e. let z : _≡_ {A = ℕ} 0 1 = cc in absurd (omega arith)) end
+    none-from (heldIn st buffer) run (omega arith) end
 
 -- ---- a call, and those that follow on it
 

@@ -17,8 +17,8 @@ use Rattle.fragments.specs.declared.State.{State}
 use Rattle.fragments.specs.declared.Progress.{Progress}
 use Rattle.fragments.specs.declared.Progress.the-variants.{Unfinished, Command, Refusal}
 use Rattle.fragments.specs.declared.Step.{Step}
-use Rattle.fragments.specs.Link.{state, fresh, isLength, isUsable, goal, lengthRefusal, takenOf, onward, refusedCall, step, bufferAfter, linkNumbers}
-use Rattle.fragments.proofs.Goals.{fresh-usable, stopped-unusable}
+use Rattle.fragments.specs.Link.{fresh, isLength, isUsable, goal, lengthRefusal, takenOf, onward, refusedCall, step, bufferAfter, linkNumbers}
+use Rattle.fragments.proofs.Usable.{fresh-usable, stopped-unusable}
 use Rattle.fragments.proofs.Calls.{offered, step-7004, step-7009, step-onward, nothing-stored, step-unfinished, step-command, step-refusal}
 
 -- ---- a test of what a call that goes on comes to, in its three ways
@@ -142,7 +142,8 @@ refused-calls st fragment buffer v e n =
 -- refusal at the fourth octet again for each fragment.
 pub stopped-until-afresh : (st : State) (fragment buffer : List ℕ) → 0 < st .stopped → longestCommand ≤ length buffer
     → step st fragment buffer ≡ refusedCall 7009 st
-stopped-until-afresh st fragment buffer h room = step-7009 st fragment buffer room (stopped-unusable st buffer h)
+stopped-until-afresh st fragment buffer h room =
+    step-7009 st fragment buffer room (stopped-unusable st buffer (λ z. omega arith))
 
 -- "the caller starts afresh, which forgets the rest": what the buffer holds counts for nothing then.
 -- Carried by step-onward.

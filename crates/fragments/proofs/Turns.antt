@@ -18,7 +18,8 @@ use Rattle.fragments.specs.declared.Progress.the-variants.{Unfinished, C
 use Rattle.fragments.specs.declared.Step.{Step}
 use Rattle.fragments.specs.Link.{state, fresh, fieldEnd, isLength, isUsable, goal, lengthRefusal, heldIn}
 use Rattle.fragments.specs.Run.{Call, answer, left, told, verdictsOf, isWhole, verdictsUncut, restUncut, takenUncut}
-use Rattle.fragments.proofs.Goals.{field-first, goal-field, goal-refused, goal-bounds, fresh-usable, stopped-unusable}
+use Rattle.fragments.proofs.Goals.{field-first, goal-field, goal-refused, goal-bounds}
+use Rattle.fragments.proofs.Usable.{fresh-usable, stopped-unusable}
 use Rattle.fragments.proofs.Calls.{offered-long, goal-over, step-unfinished, unfinished-held, unfinished-usable, step-command, step-refusal, refusal-held}
 use Rattle.fragments.proofs.Uncut.{is-whole, verdicts-first, rest-first, taken-first, verdicts-stopped, rest-stopped, taken-stopped}
 use Rattle.fragments.proofs.Follows.{Follows, heldFrom, Nothing, stopped-calls}
@@ -183,7 +184,7 @@ module _ (c : Call) (cs : List Call) (run : List ℕ) (turn : Turn c cs run) whe
       refusal-next : Nothing (heldIn (state fieldEnd 1) (left c)) cs
       refusal-next =
           stopped-calls (state fieldEnd 1) (left c) cs (left-room c cs run turn)
-          (stopped-unusable (state fieldEnd 1) (left c) (omega arith))
+          (stopped-unusable (state fieldEnd 1) (left c) (λ z. omega arith))
           (subst (λ (t : Step). Follows (t .state) (left c) cs) is-refusal (turn .follows))
 
       all-four : fieldEnd ≤ length (held ++ run)

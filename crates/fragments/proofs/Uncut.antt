@@ -38,7 +38,7 @@ is-whole s e h =
     rw (le-leb fieldEnd (length s) (omega arith), e, le-leb (lengthField s) (length s) h)
 
 -- octets that have not reached their goal
-pub short-not-whole : (s : List ℕ) → length s < goal s → isWhole s ≡ false
+short-not-whole : (s : List ℕ) → length s < goal s → isWhole s ≡ false
 unfolding isWhole
 short-not-whole s h =
     by-cases (leb fieldEnd (length s))
@@ -47,7 +47,7 @@ short-not-whole s h =
     (λ e. rw (four, e)))
     (λ few. rw few)
 
-pub short-not-stops : (s : List ℕ) → length s < goal s → stops s ≡ false
+short-not-stops : (s : List ℕ) → length s < goal s → stops s ≡ false
 unfolding stops
 short-not-stops s h =
     by-cases (leb fieldEnd (length s))
@@ -59,26 +59,16 @@ short-not-stops s h =
 
 -- ---- steps
 
+none-not-whole : (s : List ℕ) → length s ≤ 0 → isWhole s ≡ false
+unfolding isWhole
+none-not-whole s h = rw (lt-leb fieldEnd (length s) (omega arith))
+
 -- a bound of at least as many as there are octets gives the same commands as every other such bound
 pub commands-steps : (n m : ℕ) (s : List ℕ) → length s ≤ n → length s ≤ m → commandsIn n s ≡ commandsIn m s
 unfolding commandsIn
 commands-steps zero zero s h k = refl
-commands-steps zero (suc m) s h k =
-    by-cases (isWhole s)
-    (λ e.
-    let w = whole s e in
-    let a = w .enough in
-    let b = w .within in
-    absurd (omega arith))
-    (λ e. rw e)
-commands-steps (suc n) zero s h k =
-    by-cases (isWhole s)
-    (λ e.
-    let w = whole s e in
-    let a = w .enough in
-    let b = w .within in
-    absurd (omega arith))
-    (λ e. rw e)
+commands-steps zero (suc m) s h k = rw (none-not-whole s h)
+commands-steps (suc n) zero s h k = rw (none-not-whole s k)
 commands-steps (suc n) (suc m) s h k =
     let rest = commands-steps n m (drop (lengthField s) s) in
     let l = length-drop (lengthField s) s in
@@ -97,22 +87,14 @@ module _ (s : List ℕ) (e : isWhole s ≡ true) where
   abbrev behind : List ℕ
   behind = drop size s
 
-  commands-first : (n : ℕ) → length s ≤ n → commandsIn n s ≡ take size s ∷ commandsOf behind
+  commands-of : commandsOf s ≡ take size s ∷ commandsOf behind
   unfolding commandsIn
-  commands-first zero h =
-      let w = whole s e in
-      let a = w .enough in
-      let b = w .within in
-      absurd (omega arith)
-  commands-first (suc n) h =
-      let w = whole s e in
-      let a = w .enough in
+  commands-of =
       let l = length-drop size s in
-      let rest = commands-steps n (length behind) behind (omega arith) (omega arith) in
-      rw e (ap (λ (cs : List (List ℕ)). take size s ∷ cs) rest)
-
-  pub commands-of : commandsOf s ≡ take size s ∷ commandsOf behind
-  commands-of = commands-first (length s) (omega arith)
+      commands-steps (length s) (suc (length s)) s (omega arith) (omega arith)
+      ∙ rw e
+      (ap (λ (cs : List (List ℕ)). take size s ∷ cs)
+      (commands-steps (length s) (length behind) behind (omega arith) (omega arith)))
 
   pub joined-long : length (joined (commandsOf s)) ≡ size + length (joined (commandsOf behind))
   joined-long =

@@ -27,10 +27,14 @@ returns c =
     let p = c .before .before in
     let n = p .before .before .before in
     let a = n .before .before .before .args in
+    let r = n .count-to .result in
     let count = n .count-to .ensures in
+    let long = length-take-le r (a .fragment .now) (omega (arith, count)) in
     record {
       count = count;
-      octets = put-fits (a .buffer .now) (a .held) (take (n .count-to .result) (a .fragment .now)) (n .count-to .result) (length-take-le _ _ (omega (arith, count))) (omega (arith, count)) _ (p .put-octets .ensures);
+      octets =
+          put-fits (a .buffer .now) (a .held) (take r (a .fragment .now)) r long (omega (arith, count)) _
+          (p .put-octets .ensures);
     }
 
 pub fill-spec : {M : Type 1} → statement M

@@ -1,6 +1,6 @@
 -- `fragments::is_length` meets its contract.
 use mathlib.Core.Path.{sym}
-use Rattle.fragments.proofs.Steps.{length-under, length-from}
+use Rattle.fragments.proofs.Goals.{length-under, length-from}
 use Rattle.fragments.proofs.is_length.Statement.{statement}
 use Rattle.fragments.proofs.is_length.Tie as tie
 

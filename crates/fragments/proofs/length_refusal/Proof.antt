@@ -1,6 +1,6 @@
 -- `fragments::length_refusal` meets its contract.
 use mathlib.Core.Path.{sym}
-use Rattle.fragments.proofs.Steps.{refusal-under, refusal-above}
+use Rattle.fragments.proofs.Goals.{refusal-under, refusal-above}
 use Rattle.fragments.proofs.length_refusal.Statement.{statement}
 use Rattle.fragments.proofs.length_refusal.Tie as tie
 

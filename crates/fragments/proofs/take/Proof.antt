@@ -1,7 +1,8 @@
 -- `fragments::take` meets its contract.
 use borrow.Author.Needs.{needs}
 use mathlib.Core.Path.{sym, _∙_}
-use Rattle.fragments.proofs.Answers.{usable-held, refused-small, refused-state, taken-usable}
+use Rattle.fragments.proofs.Calls.{step-7004, step-7009}
+use Rattle.fragments.proofs.Promises.{taken-refused, can-take, taken-onward}
 use Rattle.fragments.proofs.take.Statement.{statement}
 use Rattle.fragments.proofs.take.Tie as tie
 
@@ -11,7 +12,8 @@ refused-call-requires c κs = search needs
 returns : tie.Need-returns
 returns c =
     let a = c .before .before .before .before .args in
-    refused-small (a .state) (a .fragment .now) (a .buffer .now) (c .before .if1 .taken) (a .log .now) _ (c .refused-call .ensures)
+    let e = step-7004 (a .state) (a .fragment .now) (a .buffer .now) (c .before .if1 .taken) in
+    taken-refused 7004 (a .state) (a .fragment .now) (a .buffer .now) e (a .log .now) _ (c .refused-call .ensures)
 
 is-usable-requires : tie.Need-is-usable-requires
 is-usable-requires c κs = search needs
@@ -22,10 +24,9 @@ cast-take-octets c = search needs
 take-octets-requires : tie.Need-take-octets-requires
 take-octets-requires c κs =
     let u = c .before .before .before .before in
-    let room = u .before .before .if1 .left in
     let a = u .before .before .before .before .before .args in
     let yes = sym (u .is-usable .ensures) ∙ c .before .before .before .if2 .taken in
-    record { room = room; usable = usable-held (a .state) (a .buffer .now) yes }
+    can-take (a .state) (a .fragment .now) (a .buffer .now) (u .before .before .if1 .left) yes
 
 same-length : tie.Need-same-length
 same-length c = search needs
@@ -36,7 +37,8 @@ returns-2 c =
     let u = t .before .before .before .before .before in
     let a = u .before .before .before .before .before .args in
     let yes = sym (u .is-usable .ensures) ∙ t .before .before .before .before .if2 .taken in
-    taken-usable (a .state) (a .fragment .now) (a .buffer .now) (u .before .before .if1 .left) yes (a .log .now) _ _ _ (t .take-octets .ensures)
+    taken-onward (a .state) (a .fragment .now) (a .buffer .now) (u .before .before .if1 .left) yes (a .log .now) _ _ _
+    (t .take-octets .ensures)
 
 refused-call-requires-2 : tie.Need-refused-call-requires-2
 refused-call-requires-2 c κs = search needs
@@ -49,7 +51,8 @@ returns-3 c =
     let u = c .before .before in
     let a = u .before .before .before .before .before .args in
     let no = sym (u .is-usable .ensures) ∙ c .before .if2 .left in
-    refused-state (a .state) (a .fragment .now) (a .buffer .now) (u .before .before .if1 .left) no (a .log .now) _ (c .refused-call2 .ensures)
+    let e = step-7009 (a .state) (a .fragment .now) (a .buffer .now) (u .before .before .if1 .left) no in
+    taken-refused 7009 (a .state) (a .fragment .now) (a .buffer .now) e (a .log .now) _ (c .refused-call2 .ensures)
 
 pub take-spec : {M : Type 1} → statement M
 take-spec =

@@ -1,23 +1,64 @@
 -- `fragments::take_octets` meets its contract.
 use borrow.Author.Needs.{needs}
-use mathlib.Core.Path.{sym, ap, _∙_}
+use mathlib.Core.Path.{_≡_, sym, ap, _∙_}
+use mathlib.Core.Bool.{true}
 use Prim.Native.Nat.{_+_}
 use native.Mathlib.Omega.{arith}
 use borrow.Author.Tests.{not-true, not-false}
 use lib.Seq.{length-take-le}
 use Rattle.rules.specs.declared.Verdict.{Verdict}
 use Rattle.fragments.specs.declared.Progress.the-variants.{Refusal}
-use Rattle.fragments.specs.Link.{stepBy}
-use Rattle.fragments.proofs.Steps.{bounded, held-below}
-use Rattle.fragments.proofs.Ends.{begun-below, ends-short, ends-wrong, command-fits, below, ends-unfinished, command-stored, ends-whole}
+use Rattle.fragments.specs.Link.{state, stepBy, isLength}
+use Rattle.fragments.proofs.Goals.{length-bounds}
+use Rattle.fragments.proofs.Calls.{held-below}
+use Rattle.fragments.proofs.Fills.{Begun, Stands, Resumed, begun-below, ends-short, ends-refused, command-fits, begun-within, ends-unfinished, command-stored, ends-command}
 use Rattle.fragments.proofs.take_octets.Statement.{statement}
 use Rattle.fragments.proofs.take_octets.Tie as tie
+
+-- octets are stored up to the fourth
+abbrev begun : tie.After-fill → Begun
+begun c =
+    let start = c .before .before .before .before in
+    let a = start .args in
+    record {
+      held = a .held;
+      fragment = a .fragment .now;
+      buffer = a .buffer .now;
+      can = start .pre;
+      first = c .fill .result;
+      after = _;
+      filled = c .fill .ensures;
+    }
+
+-- the length field stands
+abbrev begunAt : tie.After-number3 → Begun
+begunAt c = begun (c .before .before .before .before .before)
+
+abbrev stands : (c : tie.After-number3) → Stands (begunAt c)
+stands c = record { four = c .before .before .if1 .left; size = c .number3 .result; field = c .number3 .ensures .is }
+
+-- octets are stored up to the command's end
+abbrev sized : tie.After-fill2 → tie.After-number3
+sized c = c .before .before .before .before .before
+
+right : (c : tie.Else2) → isLength (c .before .before .number3 .result) ≡ true
+right c = sym (c .before .is-length .ensures) ∙ not-false _ (c .if2 .left)
+
+abbrev resumed : (c : tie.After-fill2) → Resumed (begunAt (sized c)) (stands (sized c))
+resumed c =
+    record {
+      right = right (c .before .before .before);
+      second = c .fill2 .result;
+      after = _;
+      filled = c .fill2 .ensures;
+    }
 
 fill-requires : tie.Need-fill-requires
 fill-requires c κs =
     let start = c .before .before .before in
     let can = start .pre in
-    let below = held-below (start .args .held) (start .args .buffer .now) (can .usable) in
+    let a = start .args in
+    let below = held-below (state (a .held) 0) (a .fragment .now) (a .buffer .now) (can .room) (can .usable) in
     (omega (arith, can .room), omega (arith, can .room))
 
 add-begun : tie.Need-add-begun
@@ -32,10 +73,7 @@ same-length c = search needs
 returns : tie.Need-returns
 returns c =
     let f = c .before .before .before .before in
-    let start = f .before .before .before .before in
-    let a = start .args in
-    ends-short (a .held) (a .fragment .now) (a .buffer .now) (start .pre) (f .fill .result) _ (f .fill .ensures)
-    (c .before .if1 .taken) _ (c .unfinished .ensures) (a .log .now)
+    ends-short (begun f) (c .before .if1 .taken) _ (c .unfinished .ensures) _
 
 number3-requires : tie.Need-number3-requires
 number3-requires c κs = search needs
@@ -50,11 +88,7 @@ length-refusal-requires : tie.Need-length-refusal-requires
 length-refusal-requires c κs = search needs
 
 stopped-requires : tie.Need-stopped-requires
-stopped-requires c κs =
-    let f = c .before .before .before .before .before .before .before .before in
-    let start = f .before .before .before .before in
-    let a = start .args in
-    begun-below (a .held) (a .fragment .now) (a .buffer .now) (start .pre) (f .fill .result) _ (f .fill .ensures)
+stopped-requires c κs = begun-below (begun (c .before .before .before .before .before .before .before .before))
 
 same-length-2 : tie.Need-same-length-2
 same-length-2 c = search needs
@@ -63,14 +97,11 @@ returns-2 : tie.Need-returns-2
 returns-2 c =
     let i = c .before .before .before in
     let n = i .before in
-    let e = n .before .before in
-    let f = e .before .before .before in
-    let start = f .before .before .before .before in
-    let a = start .args in
-    ends-wrong (a .held) (a .fragment .now) (a .buffer .now) (start .pre) (f .fill .result) _ (f .fill .ensures)
-    (e .if1 .left) (n .number3 .result) (n .number3 .ensures .is) (sym (i .is-length .ensures) ∙ not-true _ (c .before .before .if2 .taken)) _
-    (c .stopped .ensures ∙ ap (λ (v : Verdict). stepBy (f .fill .result) (a .held + f .fill .result) (Refusal v)) (c .before .length-refusal .ensures))
-    (a .log .now)
+    let x = begunAt n in
+    let wrong = sym (i .is-length .ensures) ∙ not-true _ (c .before .before .if2 .taken) in
+    let said = c .before .length-refusal .ensures in
+    ends-refused x (stands n) wrong _
+    (c .stopped .ensures ∙ ap (λ (v : Verdict). stepBy (x .first) (x .held + x .first) (Refusal v)) said) _
 
 sub-fill : tie.Need-sub-fill
 sub-fill c = search needs
@@ -83,20 +114,10 @@ part-fill-end c = search needs
 
 fill-requires-2 : tie.Need-fill-requires-2
 fill-requires-2 c κs =
-    let i = c .before .before .before in
-    let n = i .before in
-    let e = n .before .before in
-    let f = e .before .before .before in
-    let start = f .before .before .before .before in
-    let a = start .args in
-    let yes = sym (i .is-length .ensures) ∙ not-false _ (c .before .before .if2 .left) in
-    let fits =
-    command-fits (a .held) (a .fragment .now) (a .buffer .now) (start .pre) (f .fill .result) _ (f .fill .ensures)
-    (e .if1 .left) (n .number3 .result) (n .number3 .ensures .is) yes in
-    let low =
-    below (a .held) (a .fragment .now) (a .buffer .now) (start .pre) (f .fill .result) _ (f .fill .ensures)
-    (e .if1 .left) (n .number3 .result) (n .number3 .ensures .is) yes in
-    (omega (arith, fits, low), fits)
+    let n = c .before .before .before .before in
+    let e = right (c .before .before) in
+    let fits = command-fits (begunAt n) (stands n) e in
+    (omega (arith, fits, begun-within (begunAt n) (stands n) e), fits)
 
 add-taken : tie.Need-add-taken
 add-taken c = search needs
@@ -110,14 +131,7 @@ add-unfinished c = search needs
 unfinished-requires-2 : tie.Need-unfinished-requires-2
 unfinished-requires-2 c κs =
     let m = c .before .before .before in
-    let i = m .before .before .before .before in
-    let n = i .before in
-    let e = n .before .before in
-    let f = e .before .before .before in
-    let start = f .before .before .before .before in
-    let a = start .args in
-    let yes = sym (i .is-length .ensures) ∙ not-false _ (m .before .before .before .if2 .left) in
-    omega (arith, bounded (n .number3 .result) yes, c .if3 .taken)
+    omega (arith, length-bounds (sized m .number3 .result) (right (m .before .before .before)), c .if3 .taken)
 
 same-length-3 : tie.Need-same-length-3
 same-length-3 c = search needs
@@ -125,30 +139,13 @@ same-length-3 c = search needs
 returns-3 : tie.Need-returns-3
 returns-3 c =
     let m = c .before .before .before .before in
-    let i = m .before .before .before .before in
-    let n = i .before in
-    let e = n .before .before in
-    let f = e .before .before .before in
-    let start = f .before .before .before .before in
-    let a = start .args in
-    let yes = sym (i .is-length .ensures) ∙ not-false _ (m .before .before .before .if2 .left) in
-    ends-unfinished (a .held) (a .fragment .now) (a .buffer .now) (start .pre) (f .fill .result) _ (f .fill .ensures)
-    (e .if1 .left) (n .number3 .result) (n .number3 .ensures .is) yes
-    (m .fill2 .result) _ (m .fill2 .ensures) (c .before .if3 .taken) _ (c .unfinished2 .ensures) (a .log .now)
+    let n = sized m in
+    ends-unfinished (begunAt n) (stands n) (resumed m) (c .before .if3 .taken) _ (c .unfinished2 .ensures) _
 
 slice-reshare-prefix-verdict : tie.Need-slice-reshare-prefix-verdict
 slice-reshare-prefix-verdict c =
     let m = c .before .before .before in
-    let i = m .before .before .before .before in
-    let n = i .before in
-    let e = n .before .before in
-    let f = e .before .before .before in
-    let start = f .before .before .before .before in
-    let a = start .args in
-    let yes = sym (i .is-length .ensures) ∙ not-false _ (m .before .before .before .if2 .left) in
-    command-stored (a .held) (a .fragment .now) (a .buffer .now) (start .pre) (f .fill .result) _ (f .fill .ensures)
-    (e .if1 .left) (n .number3 .result) (n .number3 .ensures .is) yes
-    (m .fill2 .result) _ (m .fill2 .ensures)
+    command-stored (begunAt (sized m)) (stands (sized m)) (resumed m)
 
 slice-aggregate-verdict : tie.Need-slice-aggregate-verdict
 slice-aggregate-verdict c = sym (length-take-le _ _ (slice-reshare-prefix-verdict (c .before)))
@@ -165,17 +162,9 @@ same-length-4 c = search needs
 returns-4 : tie.Need-returns-4
 returns-4 c =
     let m = c .before .before .before .before .before .before .before in
-    let i = m .before .before .before .before in
-    let n = i .before in
-    let e = n .before .before in
-    let f = e .before .before .before in
-    let start = f .before .before .before .before in
-    let a = start .args in
-    let yes = sym (i .is-length .ensures) ∙ not-false _ (m .before .before .before .if2 .left) in
-    ends-whole (a .held) (a .fragment .now) (a .buffer .now) (start .pre) (f .fill .result) _ (f .fill .ensures)
-    (e .if1 .left) (n .number3 .result) (n .number3 .ensures .is) yes
-    (m .fill2 .result) _ (m .fill2 .ensures) (c .before .before .before .before .if3 .left) _ (a .log .now) _ (c .before .verdict .ensures) _
-    (c .whole .ensures)
+    let n = sized m in
+    ends-command (begunAt n) (stands n) (resumed m) (c .before .before .before .before .if3 .left) _ _ _
+    (c .before .verdict .ensures) _ (c .whole .ensures)
 
 pub take-octets-spec : {M : Type 1} → statement M
 take-octets-spec =
