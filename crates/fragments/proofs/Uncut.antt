@@ -38,7 +38,7 @@ is-whole s e h =
     rw (le-leb fieldEnd (length s) (omega arith), e, le-leb (lengthField s) (length s) h)
 
 -- octets that have not reached their goal
-short-not-whole : (s : List ℕ) → length s < goal s → isWhole s ≡ false
+pub short-not-whole : (s : List ℕ) → length s < goal s → isWhole s ≡ false
 unfolding isWhole
 short-not-whole s h =
     by-cases (leb fieldEnd (length s))
@@ -47,7 +47,7 @@ short-not-whole s h =
     (λ e. rw (four, e)))
     (λ few. rw few)
 
-short-not-stops : (s : List ℕ) → length s < goal s → stops s ≡ false
+pub short-not-stops : (s : List ℕ) → length s < goal s → stops s ≡ false
 unfolding stops
 short-not-stops s h =
     by-cases (leb fieldEnd (length s))
@@ -87,7 +87,7 @@ module _ (s : List ℕ) (e : isWhole s ≡ true) where
   abbrev behind : List ℕ
   behind = drop size s
 
-  commands-of : commandsOf s ≡ take size s ∷ commandsOf behind
+  pub commands-of : commandsOf s ≡ take size s ∷ commandsOf behind
   unfolding commandsIn
   commands-of =
       let l = length-drop size s in

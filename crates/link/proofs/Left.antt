@@ -18,7 +18,8 @@ use Rattle.fragments.specs.declared.State.{State}
 use Rattle.fragments.specs.declared.Progress.the-variants.{Command}
 use Rattle.fragments.specs.Link.{state, fresh, fieldEnd, isLength, goal, lengthRefusal, heldIn, bufferAfter}
 use Rattle.fragments.specs.Run.{isWhole}
-use Rattle.fragments.proofs.Goals.{usable-short, field-first, length-bounds, goal-field, goal-bounds, fresh-usable}
+use Rattle.fragments.proofs.Goals.{field-first, length-bounds, goal-field, goal-bounds}
+use Rattle.fragments.proofs.Usable.{usable-short, fresh-usable}
 use Rattle.fragments.proofs.Calls.{offered-long, goal-over, buffer-long, unfinished-held, unfinished-usable}
 use Rattle.fragments.proofs.Uncut.{is-whole}
 use Rattle.link.specs.declared.Tally.{Tally}

@@ -14,7 +14,7 @@ use Rattle.rules.specs.Lines.{cutLine}
 use Rattle.rules.proofs.Walk.{by-cases}
 use Rattle.fragments.specs.declared.Step.{Step}
 use Rattle.fragments.specs.Link.{isUsable, heldIn, bufferAfter, goal}
-use Rattle.fragments.proofs.Goals.{Short, usable-short}
+use Rattle.fragments.proofs.Usable.{Short, usable-short}
 use Rattle.link.specs.declared.Tally.{Tally}
 use Rattle.link.specs.Listing.{counted, listed, behind, answerTo, lineBy, tallyBy, tallyAfter, listFrom, lastLine}
 use Rattle.link.proofs.Lines.{linesUncut, lines-end, lines-cut, lines-open}

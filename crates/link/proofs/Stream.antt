@@ -8,7 +8,7 @@ use lib.ListN.{length}
 use Rattle.rules.specs.Header.{longestCommand}
 use Rattle.rules.specs.Book.{joined, commandLines}
 use Rattle.fragments.specs.Run.{commandsOf}
-use Rattle.fragments.proofs.Goals.{fresh-usable}
+use Rattle.fragments.proofs.Usable.{fresh-usable}
 use Rattle.link.specs.declared.Tally.{Tally}
 use Rattle.link.specs.Listing.{noneYet}
 use Rattle.link.specs.Stream.{listPieces, textOf, stopOf, streamListing}

@@ -18,7 +18,8 @@ use Rattle.fragments.specs.declared.State.{State}
 use Rattle.fragments.specs.declared.Progress.the-variants.{Command}
 use Rattle.fragments.specs.declared.Step.{Step}
 use Rattle.fragments.specs.Link.{state, fresh, fieldEnd, isLength, goal, lengthRefusal, heldIn, bufferAfter}
-use Rattle.fragments.proofs.Goals.{usable-short, goal-field, goal-refused, goal-bounds}
+use Rattle.fragments.proofs.Goals.{goal-field, goal-refused, goal-bounds}
+use Rattle.fragments.proofs.Usable.{usable-short}
 use Rattle.fragments.proofs.Calls.{goal-over, step-unfinished, step-command, step-refusal}
 use Rattle.link.specs.declared.Tally.{Tally}
 use Rattle.link.specs.Listing.{counted, tally, Listed, answerTo, lineBy, tallyBy, listFrom}
