@@ -12,7 +12,7 @@ import subprocess
 import threading
 import time
 
-from fault_tools import (COMPLETE, DOOR, FAILED, HANGING, Imitation, KIT, NOT_BUILT, PROGRAM, ROOT, SAMPLE,
+from fault_tools import (COMPLETE, DOOR, FAILED, HANGING, Imitation, KIT, LINK, NOT_BUILT, PROGRAM, ROOT, SAMPLE,
                          SAMPLE_LISTING, USAGE, as_nobody, check, closed, expect, expect_door, expect_sample,
                          expect_words, longest_book, run, script, sha256)
 
@@ -24,9 +24,9 @@ GIT_IDENTITY = ["-c", "user.name=test", "-c", "user.email=test"]
 BUILD_TOOLS = "awk chmod chown cmp cp cut date flock head id ls mkdir mv nproc sed sleep timeout tr wc".split()
 
 
-def proves(program=PROGRAM):
+def proves(program=PROGRAM, name="verdicts"):
     """A check that builds this program."""
-    return f"echo of rt\ncp '{program}' target/bin/verdicts && echo {STAMP} >target/stamp/verdicts && {OK}"
+    return f"echo of rt\ncp '{program}' target/bin/{name} && echo {STAMP} >target/stamp/{name} && {OK}"
 
 
 def built(name, door, *words, **how):
@@ -86,7 +86,7 @@ def incomplete_checks(folder):
         ("has its program exchanged at once", f"{proves()}; cp path/exchange path/sort", "changed after the check"),
         # The stand-in for timeout, with which a new program is tried, exchanges it once.
         ("has its program exchanged", f"{proves()}; cp path/exchange path/timeout", "changed after the check"),
-        ("leaves no room for the record", f"{proves()}; mkdir target/door/record.new", "record cannot be written"),
+        ("leaves no room for the record", f"{proves()}; mkdir target/door/record.verdicts.new", "record.verdicts cannot be written"),
         ("leaves no room for hashes", f"{proves()}; mkdir target/door/libraries.new", "libraries cannot be written"),
     ]
     for number, (name, rt, words) in enumerate(cases):
@@ -292,9 +292,9 @@ def signals(folder):
         check("front door, " + name, "output", output, b"")
         expect_words(name, messages, "ended by " + number.name)
         for process in (door.place / "target/started").read_text().split():
-            left = is_running(process)
-            check("front door, " + name, "left running", left, False)
-            if left:
+            ended = ends(process)
+            check("front door, " + name, "left running", not ended, False)
+            if not ended:
                 os.kill(int(process), signal.SIGKILL)
         check("front door, " + name, "what is left in the temporary folder", os.listdir(door.place / "tmp"), [])
     door.rt(proves())
@@ -524,10 +524,10 @@ def numbered_books(folder):
 def version(folder):
     door = Imitation(folder / "version", PROGRAM)
     proved = f"kit {KIT}, program {sha256(PROGRAM.read_bytes())}"
-    def expect_version(name, text, **how):
+    def expect_version(name, text, link="not built", **how):
         status, output, messages = door.list("--version", **how)
         check("front door, --version, " + name, "status, text and messages", (status, output.decode(), messages),
-              (COMPLETE, text + "\n", b""))
+              (COMPLETE, f"{text}, link {link}\n", b""))
     def git(*words):
         done = subprocess.run(["git", "-C", door.place, *GIT_IDENTITY, *words], check=True, stdout=subprocess.PIPE)
         return done.stdout.decode().strip()
@@ -539,7 +539,7 @@ def version(folder):
     subprocess.run(["git", "-C", folder / "outer", *GIT_IDENTITY, *words], check=True)
     inner = Imitation(folder / "outer/inner", PROGRAM)
     check("front door, --version, a folder of another repository", "text", inner.list("--version")[1].decode(),
-          f"{unknown}, {proved}\n")
+          f"{unknown}, {proved}, link not built\n")
     git("init", "--quiet")
     (door.place / ".gitignore").write_text("target/\n")
     git("add", ".")
@@ -552,7 +552,11 @@ def version(folder):
     doubt = "not proved here: crates/ or crates.txt is not what was proved"
     expect_version("changed sources", f"commit {commit} (with changes), {proved} ({doubt})")
     door.program.unlink()
-    expect_version("no program", f"commit {commit} (with changes), kit {KIT}, program not built")
+    none = f"commit {commit} (with changes), kit {KIT}, program not built"
+    expect_version("no program", none)
+    shutil.copy(LINK, door.place / "target/bin/link")
+    hash_and_doubt = f"{sha256(LINK.read_bytes())} (not proved here: the program was built elsewhere, or by rt alone: "
+    expect_version("a program for streams that rt built", none, hash_and_doubt + "no check from here vouches for it)")
     check("front door, --version", "checks asked for", door.asked(), 0)
     with open("/dev/full", "wb") as full:
         expect_door("--version to a full output", door.list("--version", stdout=full), FAILED)

@@ -1,15 +1,24 @@
-"""What tests/faults and tests/door_faults.py share: checks that count, and the front door in a folder of its own."""
+"""What tests/faults, door_faults.py and link_faults.py share: checks that count, and the front door in a folder of its
+own."""
+import fcntl
 import hashlib
 import os
 import pathlib
 import shutil
+import socket
 import subprocess
+import sys
+import termios
+import threading
+import time
 
 ROOT = pathlib.Path(__file__).resolve().parent.parent
 PROGRAM = ROOT / "target/bin/verdicts"
+LINK = ROOT / "target/bin/link"
 DOOR = ROOT / "verdicts"
 HANGING = 120  # seconds, against hanging only
 COMPLETE, CUT, NO_BOOK, FAILED, NOT_BUILT, USAGE = 0, 1, 2, 3, 4, 64
+STOPPED = 2
 
 HEAD = b"NTB\0\1"
 # 01, The book and its listing: the worked command, refused with 5005 at 20.
@@ -17,6 +26,8 @@ WORKED = bytes.fromhex("01000014C08000730100008400000001 00000002")
 SAMPLE = (ROOT / "books/sample.ntb").read_bytes()
 SAMPLE_LISTING = (ROOT / "books/sample.listing").read_bytes()
 ONLY_HEAD = b"NTB 1\nend 0 0\n"
+STREAM = (ROOT / "streams/sample.nts").read_bytes()
+STREAM_LISTING = (ROOT / "streams/sample.listing").read_bytes()
 KIT = "a kit of the tests"
 
 failures = []
@@ -67,9 +78,49 @@ def expect_sample(name, result):
     expect_door(name, result, COMPLETE, SAMPLE_LISTING, SAMPLE_LISTING)
 
 
+def expect_stream(name, result):
+    expect_door(name, result, COMPLETE, STREAM_LISTING, STREAM_LISTING)
+
+
 def expect_words(name, messages, *words):
     for word in words:
         check("front door, " + name, f"the word `{word}` in {shown(messages)}", word.encode() in messages, True)
+
+
+def packets(command, book, size):
+    """Each read gets one packet, so the pieces are these whatever the speed."""
+    ours, theirs = socket.socketpair(socket.AF_UNIX, socket.SOCK_SEQPACKET)
+    def send():
+        with ours:
+            for at in range(0, len(book), size):
+                ours.send(book[at:at + size])
+    writer = threading.Thread(target=send)
+    writer.start()
+    with theirs:
+        result = run(command, stdin=theirs)
+    writer.join()
+    return result
+
+
+def running(program):
+    """The processes of this program."""
+    found = []
+    for process in pathlib.Path("/proc").glob("[0-9]*"):
+        try:
+            if os.readlink(process / "exe") == os.path.realpath(program):
+                found.append(process.name)
+        except OSError:
+            continue
+    return found
+
+
+def wait_until_empty(pipe):
+    waited = 0
+    while int.from_bytes(fcntl.ioctl(pipe, termios.FIONREAD, bytes(4)), sys.byteorder):
+        time.sleep(0.01)
+        waited += 0.01
+        if waited > HANGING:
+            raise TimeoutError("the program reads nothing")
 
 
 def closed(number):
@@ -100,25 +151,27 @@ def sha256(octets):
 
 
 class Imitation:
-    """The front door in a folder of its own, with a stand-in for rt and whatever program a test puts there."""
+    """The front door in a folder of its own, with a stand-in for rt and whatever program a test puts there, as
+    `verdicts` or as `link`."""
 
-    def __init__(self, place, program=None):
+    def __init__(self, place, program=None, name="verdicts"):
         for part in ("crates/book/src", "target/bin", "target/stamp", "target/log", "target/rlib/book.rlib", "path"):
             (place / part).mkdir(parents=True)
         for part in (place, *place.parents[:1]):
             part.chmod(0o755)
         self.place = place
         self.door = place / "verdicts"
-        self.program = place / "target/bin/verdicts"
-        self.stamp = place / "target/stamp/verdicts"
-        self.record = place / "target/door/record"
+        self.name = name
+        self.program = place / f"target/bin/{name}"
+        self.stamp = place / f"target/stamp/{name}"
+        self.record = place / f"target/door/record.{name}"
         self.libraries = place / "target/door/libraries"
         self.log = place / "target/door/check.log"
         self.source = place / "crates/book/src/lib.rt"
         self.path = {"PATH": f"{place}/path:{os.environ['PATH']}"}
         shutil.copy(DOOR, self.door)
         self.source.write_text("fn main() {}\n")
-        (place / "crates.txt").write_text("verdicts:\n")
+        (place / "crates.txt").write_text("verdicts:\nlink:\n")
         (place / "target/stamp/book").write_text("1" * 64 + "\n")
         (place / "target/rlib/book.rlib/code").write_text("of book\n")
         self.rt("exit 1")
@@ -149,9 +202,11 @@ class Imitation:
             f"program {sha256(self.program.read_bytes())}\n")
         self.libraries.write_text(
             f"library book {'1' * 64} {folder_hash(self.place / 'target/rlib/book.rlib')}\n"
-            f"library verdicts {'2' * 64} -\n")
+            f"library {self.name} {'2' * 64} -\n")
 
     def list(self, *arguments, env=None, **how):
-        if not arguments:
+        if not arguments and self.name == "verdicts":
             arguments, how = ("-",), {"book": SAMPLE, **how}
+        elif not arguments:
+            arguments, how = ("--link", "-"), {"book": STREAM, **how}
         return run([self.door, *arguments], env={**self.path, **(env or {})}, **how)
