@@ -86,7 +86,8 @@ def incomplete_checks(folder):
         ("has its program exchanged at once", f"{proves()}; cp path/exchange path/sort", "changed after the check"),
         # The stand-in for timeout, with which a new program is tried, exchanges it once.
         ("has its program exchanged", f"{proves()}; cp path/exchange path/timeout", "changed after the check"),
-        ("leaves no room for the record", f"{proves()}; mkdir target/door/record.verdicts.new", "record.verdicts cannot be written"),
+        ("leaves no room for the record", f"{proves()}; mkdir target/door/record.verdicts.new",
+         "record.verdicts cannot be written"),
         ("leaves no room for hashes", f"{proves()}; mkdir target/door/libraries.new", "libraries cannot be written"),
     ]
     for number, (name, rt, words) in enumerate(cases):
