@@ -239,13 +239,20 @@ def outputs(shim):
              FAULT_SIGNAL="9")
 
 
-def full_output_of_a_live_stream():
-    """A line that cannot be written ends the listing, though the input goes on."""
-    with open("/dev/full", "wb") as full:
-        started = start(DOOR, "--link", "-", stdout=full)
+def lost_lines_of_a_live_stream(folder):
+    """A line that cannot be written, or that sed loses, ends the listing, though the input goes on."""
+    copy = Imitation(folder / "lost", LINK, "link")
+    def lost(name, stdout):
+        started = start(copy.door, "--link", "-", env=copy.path, stdout=stdout)
         started.stdin.write(WORKED)
-        check("front door, --link, a full output while more may come", "status", started.wait(HANGING), FAILED)
-        started.communicate()
+        check("front door, --link, " + name, "status", started.wait(HANGING), FAILED)
+        check("front door, --link, " + name, "programs left running", running(copy.program), [])
+        output, _ = started.communicate()
+        check("front door, --link, " + name, "output", output or b"", b"")
+    with open("/dev/full", "wb") as full:
+        lost("a full output while more may come", full)
+    script(copy.place / "path/sed", "read line; exit 1")
+    lost("sed fails while more may come", subprocess.PIPE)
 
 
 def judgements(folder):
@@ -343,7 +350,7 @@ def try_all(folder, shim):
     standing_writer(folder)
     standing_and_leaving_readers(folder)
     outputs(shim)
-    full_output_of_a_live_stream()
+    lost_lines_of_a_live_stream(folder)
     judgements(folder)
     exchanged(folder)
     builds(folder)
