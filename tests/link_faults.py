@@ -302,6 +302,18 @@ def exchanged(folder):
             expect_words(name_of_case, messages, "changed while the stream was listed")
 
 
+def built_anew_meanwhile(folder):
+    """While the program lists, the sources are edited, and another start builds the program anew."""
+    door = Imitation(folder / "anew", name="link")
+    door.rt(proves(LINK, "link"))
+    again = f"'{door.door}' --link '{ROOT}/streams/worked.nts' >'{door.place}/again' 2>&1"
+    script(door.program, f"echo >>'{door.source}'\n{again}\nexec '{LINK}'")
+    door.vouch()
+    name = "--link, the program is built anew while the stream is listed"
+    expect_words(name, expect_door(name, door.list(), NOT_BUILT, LINES), "built anew")
+    check("front door, " + name, "the other listing", (door.place / "again").read_bytes().endswith(b"end 1 0\n"), True)
+
+
 def builds(folder):
     """Each program is proved when it is asked for, and tried."""
     door = Imitation(folder / "two-programs", PROGRAM)
@@ -353,5 +365,6 @@ def try_all(folder, shim):
     lost_lines_of_a_live_stream(folder)
     judgements(folder)
     exchanged(folder)
+    built_anew_meanwhile(folder)
     builds(folder)
     without_writer(folder)
