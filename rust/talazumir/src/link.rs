@@ -74,8 +74,8 @@ impl Link {
         Taken { octets: step.taken, progress }
     }
 
-    /// The octets of the command that the last call found; none where it found none. [`read`](crate::read) gives their
-    /// record.
+    /// The octets of the command that the last call found; none where it found none, as at the end of
+    /// [`commands`](Link::commands). [`read`](crate::read) gives their record.
     pub fn command(&self) -> Option<&[u8]> {
         self.found.map(|length| &self.buffer[..length])
     }
@@ -160,6 +160,7 @@ impl<I: Iterator<Item: AsRef<[u8]>>> Iterator for Commands<'_, I> {
     type Item = Result<Verdict, Verdict>;
 
     fn next(&mut self) -> Option<Result<Verdict, Verdict>> {
+        self.link.found = None;
         while !self.has_stopped {
             if self.rest().is_empty() {
                 self.taken = 0;

@@ -65,6 +65,22 @@ fn a_call_takes_one_command_and_keeps_its_octets() {
 }
 
 #[test]
+fn commands_end_with_none_in_each_cutting() {
+    let cuttings: [&[&[u8]]; 4] = [&[&S], &[&S, &[]], &[&[], &S[..7], &S[7..]], &[&S[..159], &[], &S[159..], &[], &[]]];
+    for fragments in cuttings {
+        let mut link = Link::new();
+        let mut commands = link.commands(fragments);
+        assert_eq!(commands.next(), Some(Ok(ACCEPTED)));
+        assert_eq!(commands.command(), Some(&S[..]));
+        for _ in 0..2 {
+            assert_eq!(commands.next(), None);
+            assert_eq!((commands.command(), commands.rest()), (None, &[][..]), "{fragments:?}");
+        }
+        assert_eq!(link.command(), None);
+    }
+}
+
+#[test]
 fn the_fourth_octet_stops_a_run() {
     for (length, number) in [(0, 5015), (19, 5015), (16_385, 7001), (16_388, 7001), (16_777_215, 7001)] {
         let run = [&S[..], &header(length)].concat();
