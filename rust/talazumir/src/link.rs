@@ -163,6 +163,8 @@ impl<I: Iterator<Item: AsRef<[u8]>>> Iterator for Commands<'_, I> {
         self.link.found = None;
         while !self.has_stopped {
             if self.rest().is_empty() {
+                // Before the source is asked, which may panic.
+                self.fragment = None;
                 self.taken = 0;
                 self.fragment = self.fragments.next();
             }

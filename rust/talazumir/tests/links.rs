@@ -2,6 +2,7 @@
 //! the answers to states and buffers that no run has.
 
 use commands::{L, S};
+use std::panic::{catch_unwind, AssertUnwindSafe};
 use talazumir::lent::{take, State, Step, BUFFER, LOG_NUMBERS, NO_VERDICT};
 use talazumir::link::{Link, Progress};
 use talazumir::Verdict;
@@ -77,6 +78,36 @@ fn commands_end_with_none_in_each_cutting() {
             assert_eq!((commands.command(), commands.rest()), (None, &[][..]), "{fragments:?}");
         }
         assert_eq!(link.command(), None);
+    }
+}
+
+#[test]
+fn a_source_that_panics_costs_no_octet_and_doubles_none() {
+    let run = [&S[..], &H, &S].concat();
+    let expected = [Ok(ACCEPTED), Ok(H_VERDICT), Ok(ACCEPTED)];
+    for size in 1..=run.len() {
+        let mut pieces = run.chunks(size);
+        let mut calls = 0;
+        let source = std::iter::from_fn(|| {
+            calls += 1;
+            // by no panic!, which would print
+            if calls % 2 == 0 {
+                std::panic::resume_unwind(Box::new("the source panics at each second call"));
+            }
+            pieces.next()
+        });
+        let mut link = Link::new();
+        let mut commands = link.commands(source);
+        let mut verdicts = Vec::new();
+        loop {
+            match catch_unwind(AssertUnwindSafe(|| commands.next())) {
+                Ok(Some(verdict)) => verdicts.push(verdict),
+                Ok(None) => break,
+                Err(_) => assert_eq!((commands.command(), commands.rest()), (None, &[][..])),
+            }
+        }
+        assert_eq!(verdicts, expected, "pieces of {size}");
+        assert!(link.unfinished().is_empty());
     }
 }
 
