@@ -24,6 +24,7 @@
 
 use crate::lent::{self, State, BUFFER, LOG_NUMBERS};
 use crate::Verdict;
+use std::fmt;
 use std::iter::{Fuse, FusedIterator};
 
 /// What stopped a call.
@@ -49,7 +50,7 @@ pub struct Taken {
 
 /// Puts the commands of one link together from fragments. However a run is cut, the verdicts, the octets taken in total
 /// and the octets left unfinished are the same.
-#[derive(Clone, Debug)]
+#[derive(Clone)]
 pub struct Link {
     state: State,
     buffer: Box<[u8; BUFFER]>,
@@ -97,7 +98,7 @@ impl Link {
     }
 
     /// Takes these fragments one after the other, each as a whole, and gives the verdict of each command that ends in
-    /// them: an error is the refusal that stops the run, and the last item.
+    /// them. An error is the refusal that stops the run, 7009 if it has stopped before, and the last item.
     ///
     /// ```
     /// let header = [1, 0, 0, 20, 0xC0, 0x80, 0, 0x73, 1, 0, 0, 0x84, 0, 0, 0, 1, 0, 0, 0, 2];
@@ -120,6 +121,13 @@ impl Link {
     }
 }
 
+impl fmt::Debug for Link {
+    /// The state, without the memory behind it: 16,384 octets and 1,792 numbers.
+    fn fmt(&self, f: &mut fmt::Formatter<'_>) -> fmt::Result {
+        f.debug_struct("Link").field("state", &self.state).field("found", &self.found).finish_non_exhaustive()
+    }
+}
+
 impl Default for Link {
     fn default() -> Link {
         Link::new()
@@ -129,7 +137,6 @@ impl Default for Link {
 /// The commands that end in some fragments of a link; see [`Link::commands`]. The link goes on where this stops: octets
 /// of an unfinished command are held by it. Only the [`rest`](Commands::rest) of a fragment that was not gone through
 /// to its end is to be offered to it again.
-#[derive(Debug)]
 pub struct Commands<'l, I: Iterator> {
     link: &'l mut Link,
     fragments: Fuse<I>,
@@ -153,6 +160,13 @@ impl<I: Iterator<Item: AsRef<[u8]>>> Commands<'_, I> {
     /// The octets of the fragment at hand that are not taken.
     pub fn rest(&self) -> &[u8] {
         self.fragment.as_ref().map_or(&[], |fragment| &fragment.as_ref()[self.taken..])
+    }
+}
+
+impl<I: Iterator> fmt::Debug for Commands<'_, I> {
+    /// The link's state and how far the fragment at hand is taken, without the fragments.
+    fn fmt(&self, f: &mut fmt::Formatter<'_>) -> fmt::Result {
+        f.debug_struct("Commands").field("link", &self.link).field("taken", &self.taken).finish_non_exhaustive()
     }
 }
 

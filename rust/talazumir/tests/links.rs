@@ -140,12 +140,25 @@ fn the_fourth_octet_stops_a_run() {
 fn to_start_afresh_forgets_what_is_held() {
     for held in 0..160 {
         let mut link = Link::new();
-        link.take(&S[..held]);
+        let _ = link.take(&S[..held]);
         assert_eq!(link.unfinished(), &S[..held]);
         link.start_afresh();
         assert!(link.unfinished().is_empty());
         assert_eq!(link.take(&H).progress, Progress::Command(H_VERDICT), "{held}");
     }
+}
+
+#[test]
+fn debug_shows_the_state_and_no_memory() {
+    let mut link = Link::new();
+    let _ = link.take(&S[..3]);
+    assert_eq!(format!("{link:?}"), "Link { state: State { held: 3, stopped: 0 }, found: None, .. }");
+    let mut commands = link.commands([[&S[3..], &H].concat()]);
+    assert_eq!(commands.next(), Some(Ok(ACCEPTED)));
+    assert_eq!(
+        format!("{commands:?}"),
+        "Commands { link: Link { state: State { held: 0, stopped: 0 }, found: Some(160), .. }, taken: 157, .. }"
+    );
 }
 
 #[test]
