@@ -40,6 +40,7 @@ pub enum Progress {
 }
 
 /// What comes back for a fragment.
+#[must_use = "octets that were not taken are to be offered again"]
 #[derive(Clone, Copy, Debug, PartialEq, Eq, Hash)]
 pub struct Taken {
     /// How many of its octets were taken. The others are to be offered again, alone or before the next fragment.
@@ -100,6 +101,9 @@ impl Link {
     /// Takes these fragments one after the other, each as a whole, and gives the verdict of each command that ends in
     /// them. An error is the refusal that stops the run, 7009 if it has stopped before, and the last item.
     ///
+    /// It takes octets only as it is run, so it is to be run until it gives none. Who leaves it before offers again
+    /// what it has not taken: first its [`rest`](Commands::rest), then the fragments that it has not asked for.
+    ///
     /// ```
     /// let header = [1, 0, 0, 20, 0xC0, 0x80, 0, 0x73, 1, 0, 0, 0x84, 0, 0, 0, 1, 0, 0, 0, 2];
     /// // A command, then a length field of 19; nothing is taken behind its last octet.
@@ -111,6 +115,15 @@ impl Link {
     /// assert!(matches!(commands.next(), Some(Err(refusal)) if (refusal.number, refusal.place) == (5015, 1)));
     /// assert_eq!(commands.next(), None);
     /// assert_eq!((commands.unfinished(), commands.rest()), (&[1, 0, 0, 19][..], &[][..]));
+    ///
+    /// // Left behind its first command, of three, and gone on with.
+    /// let run = header.repeat(3);
+    /// let mut fragments = run.chunks(50);
+    /// link.start_afresh();
+    /// let mut commands = link.commands(fragments.by_ref());
+    /// assert!(commands.next().is_some());
+    /// let rest = commands.rest().to_vec();
+    /// assert_eq!(link.commands(std::iter::once(&rest[..]).chain(fragments)).count(), 2);
     /// ```
     pub fn commands<I>(&mut self, fragments: I) -> Commands<'_, I::IntoIter>
     where
@@ -135,8 +148,9 @@ impl Default for Link {
 }
 
 /// The commands that end in some fragments of a link; see [`Link::commands`]. The link goes on where this stops: octets
-/// of an unfinished command are held by it. Only the [`rest`](Commands::rest) of a fragment that was not gone through
-/// to its end is to be offered to it again.
+/// of an unfinished command are held by it. Of the fragment at hand only the [`rest`](Commands::rest) is to be offered
+/// to it again.
+#[must_use = "octets are taken only as it is run"]
 pub struct Commands<'l, I: Iterator> {
     link: &'l mut Link,
     fragments: Fuse<I>,
