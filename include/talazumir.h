@@ -59,9 +59,10 @@ extern "C" {
 #define TALAZUMIR_AVP_START 5
 #define TALAZUMIR_AVP_LENGTH 6
 
-/* The stack that a call takes at most, in octets, its return address among them: the frames of the archive's code along
- * the deepest chain of calls, and 4,096 for memcpy and memset of the C library, which the dynamic linker may bind at
- * their first call; rounded up. No proof says it: tests/boundary/stack adds up the frames of the archive as built. */
+/* The stack that a call takes at most, in octets, its return address among them: the frames along the deepest chain of
+ * calls, rounded up. memcpy and memset of the C library, where the archive's code calls them, count 4,096, since the
+ * dynamic linker may bind them at their first call. No proof says it: tests/boundary/stack adds up the frames of the
+ * archive as built. */
 #define TALAZUMIR_VERDICT_STACK 2048
 #define TALAZUMIR_READ_STACK 32768
 #define TALAZUMIR_DATA_STACK 256
@@ -189,7 +190,8 @@ struct TalazumirLinkState talazumir_link_fresh(void);
  * of these that applies is the answer:
  *
  *   7004  TALAZUMIR_REFUSAL: the room is less than TALAZUMIR_LINK_BUFFER
- *   7009  TALAZUMIR_REFUSAL: `stopped` is not 0; or `held` is 4 or more, and F under 20, above 16,384 or not above it
+ *   7009  TALAZUMIR_REFUSAL: `stopped` is not 0; or `held` is 4 or more, and F is under 20, above 16,384 or not above
+ *         `held`
  *         else octets of the fragment are put into the buffer behind those held, one after the other, until
  *   5015  TALAZUMIR_REFUSAL at place 1: the fourth octet stands there, and F is under 20
  *   7001  TALAZUMIR_REFUSAL at place 1: the fourth octet stands there, and F is above 16,384
@@ -197,9 +199,9 @@ struct TalazumirLinkState talazumir_link_fresh(void);
  *         TALAZUMIR_UNFINISHED: the fragment has no more
  *
  * 7004 and 7009 take nothing and keep the state. 5015 and 7001 take the fourth octet last and stop the run: 4 octets
- * are held, and 7009 is the answer until the caller starts afresh. A command stops no run, whatever its verdict, and
- * leaves the state fresh. It stands at the start of the buffer until the next call, as many octets as were held before
- * and taken, which is F: talazumir_read over these gives its record.
+ * are held, and until the caller starts afresh the answer is 7009, or 7004 where the room is too small. A command stops
+ * no run, whatever its verdict, and leaves the state fresh. It stands at the start of the buffer until the next call,
+ * as many octets as were held before and taken, which is F: talazumir_read over these gives its record.
  *
  * Of the buffer only as many octets change as were taken, from those held on; what lies behind the held ones is not
  * looked at. The log is scratch memory: after TALAZUMIR_COMMAND as talazumir_verdict leaves it, else as it was. */

@@ -20,6 +20,7 @@ pub fn verdict(octets: &[u8], log: &mut [u32; LOG_NUMBERS]) -> Verdict {
 }
 
 /// What the caller keeps for a link between calls of [`take`]. Any numbers are a state.
+#[must_use = "it is for the next call"]
 #[repr(C)]
 #[derive(Clone, Copy, Debug, PartialEq, Eq, Hash)]
 pub struct State {
@@ -44,6 +45,7 @@ impl Default for State {
 
 /// What comes back for a fragment, as it crosses the boundary; [`Step::progress()`] puts `progress` and `verdict`
 /// together.
+#[must_use = "the state in it is for the next call, and octets that were not taken are to be offered again"]
 #[repr(C)]
 #[derive(Clone, Copy, Debug, PartialEq, Eq, Hash)]
 pub struct Step {

@@ -24,6 +24,8 @@ use std::fmt;
 
 #[allow(unsafe_code)]
 mod boundary;
+#[cfg(doctest)]
+mod ignored;
 pub mod lent;
 pub mod link;
 
@@ -36,6 +38,7 @@ pub const MOST_AVPS: usize = 256;
 pub const RECORD_NUMBERS: usize = 7 + 7 * MOST_AVPS;
 
 /// What comes back for a command or a draft.
+#[must_use = "it may be a refusal"]
 #[repr(C)]
 #[derive(Clone, Copy, Debug, PartialEq, Eq, Hash)]
 pub struct Verdict {
@@ -66,6 +69,7 @@ impl fmt::Display for Verdict {
 impl std::error::Error for Verdict {}
 
 /// What comes back for a draft, or for a command's canonical form.
+#[must_use = "it may be a refusal, which leaves the output as it was"]
 #[repr(C)]
 #[derive(Clone, Copy, Debug, PartialEq, Eq, Hash)]
 pub struct Written {

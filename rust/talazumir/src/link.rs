@@ -24,6 +24,7 @@
 
 use crate::lent::{self, State, BUFFER, LOG_NUMBERS};
 use crate::Verdict;
+use std::fmt;
 use std::iter::{Fuse, FusedIterator};
 
 /// What stopped a call.
@@ -39,6 +40,7 @@ pub enum Progress {
 }
 
 /// What comes back for a fragment.
+#[must_use = "octets that were not taken are to be offered again"]
 #[derive(Clone, Copy, Debug, PartialEq, Eq, Hash)]
 pub struct Taken {
     /// How many of its octets were taken. The others are to be offered again, alone or before the next fragment.
@@ -49,7 +51,7 @@ pub struct Taken {
 
 /// Puts the commands of one link together from fragments. However a run is cut, the verdicts, the octets taken in total
 /// and the octets left unfinished are the same.
-#[derive(Clone, Debug)]
+#[derive(Clone)]
 pub struct Link {
     state: State,
     buffer: Box<[u8; BUFFER]>,
@@ -74,8 +76,8 @@ impl Link {
         Taken { octets: step.taken, progress }
     }
 
-    /// The octets of the command that the last call found; none where it found none. [`read`](crate::read) gives their
-    /// record.
+    /// The octets of the command that the last call found; none where it found none, as at the end of
+    /// [`commands`](Link::commands). [`read`](crate::read) gives their record.
     pub fn command(&self) -> Option<&[u8]> {
         self.found.map(|length| &self.buffer[..length])
     }
@@ -97,7 +99,10 @@ impl Link {
     }
 
     /// Takes these fragments one after the other, each as a whole, and gives the verdict of each command that ends in
-    /// them: an error is the refusal that stops the run, and the last item.
+    /// them. An error is the refusal that stops the run, 7009 if it has stopped before, and the last item.
+    ///
+    /// It takes octets only as it is run, so it is to be run until it gives none. Who leaves it before offers again
+    /// what it has not taken: first its [`rest`](Commands::rest), then the fragments that it has not asked for.
     ///
     /// ```
     /// let header = [1, 0, 0, 20, 0xC0, 0x80, 0, 0x73, 1, 0, 0, 0x84, 0, 0, 0, 1, 0, 0, 0, 2];
@@ -110,6 +115,15 @@ impl Link {
     /// assert!(matches!(commands.next(), Some(Err(refusal)) if (refusal.number, refusal.place) == (5015, 1)));
     /// assert_eq!(commands.next(), None);
     /// assert_eq!((commands.unfinished(), commands.rest()), (&[1, 0, 0, 19][..], &[][..]));
+    ///
+    /// // Left behind its first command, of three, and gone on with.
+    /// let run = header.repeat(3);
+    /// let mut fragments = run.chunks(50);
+    /// link.start_afresh();
+    /// let mut commands = link.commands(fragments.by_ref());
+    /// assert!(commands.next().is_some());
+    /// let rest = commands.rest().to_vec();
+    /// assert_eq!(link.commands(std::iter::once(&rest[..]).chain(fragments)).count(), 2);
     /// ```
     pub fn commands<I>(&mut self, fragments: I) -> Commands<'_, I::IntoIter>
     where
@@ -120,6 +134,13 @@ impl Link {
     }
 }
 
+impl fmt::Debug for Link {
+    /// The state, without the memory behind it: 16,384 octets and 1,792 numbers.
+    fn fmt(&self, f: &mut fmt::Formatter<'_>) -> fmt::Result {
+        f.debug_struct("Link").field("state", &self.state).field("found", &self.found).finish_non_exhaustive()
+    }
+}
+
 impl Default for Link {
     fn default() -> Link {
         Link::new()
@@ -127,9 +148,9 @@ impl Default for Link {
 }
 
 /// The commands that end in some fragments of a link; see [`Link::commands`]. The link goes on where this stops: octets
-/// of an unfinished command are held by it. Only the [`rest`](Commands::rest) of a fragment that was not gone through
-/// to its end is to be offered to it again.
-#[derive(Debug)]
+/// of an unfinished command are held by it. Of the fragment at hand only the [`rest`](Commands::rest) is to be offered
+/// to it again.
+#[must_use = "octets are taken only as it is run"]
 pub struct Commands<'l, I: Iterator> {
     link: &'l mut Link,
     fragments: Fuse<I>,
@@ -156,12 +177,22 @@ impl<I: Iterator<Item: AsRef<[u8]>>> Commands<'_, I> {
     }
 }
 
+impl<I: Iterator> fmt::Debug for Commands<'_, I> {
+    /// The link's state and how far the fragment at hand is taken, without the fragments.
+    fn fmt(&self, f: &mut fmt::Formatter<'_>) -> fmt::Result {
+        f.debug_struct("Commands").field("link", &self.link).field("taken", &self.taken).finish_non_exhaustive()
+    }
+}
+
 impl<I: Iterator<Item: AsRef<[u8]>>> Iterator for Commands<'_, I> {
     type Item = Result<Verdict, Verdict>;
 
     fn next(&mut self) -> Option<Result<Verdict, Verdict>> {
+        self.link.found = None;
         while !self.has_stopped {
             if self.rest().is_empty() {
+                // Before the source is asked, which may panic.
+                self.fragment = None;
                 self.taken = 0;
                 self.fragment = self.fragments.next();
             }

@@ -2,6 +2,7 @@
 //! the answers to states and buffers that no run has.
 
 use commands::{L, S};
+use std::panic::{catch_unwind, AssertUnwindSafe};
 use talazumir::lent::{take, State, Step, BUFFER, LOG_NUMBERS, NO_VERDICT};
 use talazumir::link::{Link, Progress};
 use talazumir::Verdict;
@@ -65,6 +66,52 @@ fn a_call_takes_one_command_and_keeps_its_octets() {
 }
 
 #[test]
+fn commands_end_with_none_in_each_cutting() {
+    let cuttings: [&[&[u8]]; 4] = [&[&S], &[&S, &[]], &[&[], &S[..7], &S[7..]], &[&S[..159], &[], &S[159..], &[], &[]]];
+    for fragments in cuttings {
+        let mut link = Link::new();
+        let mut commands = link.commands(fragments);
+        assert_eq!(commands.next(), Some(Ok(ACCEPTED)));
+        assert_eq!(commands.command(), Some(&S[..]));
+        for _ in 0..2 {
+            assert_eq!(commands.next(), None);
+            assert_eq!((commands.command(), commands.rest()), (None, &[][..]), "{fragments:?}");
+        }
+        assert_eq!(link.command(), None);
+    }
+}
+
+#[test]
+fn a_source_that_panics_costs_no_octet_and_doubles_none() {
+    let run = [&S[..], &H, &S].concat();
+    let expected = [Ok(ACCEPTED), Ok(H_VERDICT), Ok(ACCEPTED)];
+    for size in 1..=run.len() {
+        let mut pieces = run.chunks(size);
+        let mut calls = 0;
+        let source = std::iter::from_fn(|| {
+            calls += 1;
+            // by no panic!, which would print
+            if calls % 2 == 0 {
+                std::panic::resume_unwind(Box::new("the source panics at each second call"));
+            }
+            pieces.next()
+        });
+        let mut link = Link::new();
+        let mut commands = link.commands(source);
+        let mut verdicts = Vec::new();
+        loop {
+            match catch_unwind(AssertUnwindSafe(|| commands.next())) {
+                Ok(Some(verdict)) => verdicts.push(verdict),
+                Ok(None) => break,
+                Err(_) => assert_eq!((commands.command(), commands.rest()), (None, &[][..])),
+            }
+        }
+        assert_eq!(verdicts, expected, "pieces of {size}");
+        assert!(link.unfinished().is_empty());
+    }
+}
+
+#[test]
 fn the_fourth_octet_stops_a_run() {
     for (length, number) in [(0, 5015), (19, 5015), (16_385, 7001), (16_388, 7001), (16_777_215, 7001)] {
         let run = [&S[..], &header(length)].concat();
@@ -93,12 +140,25 @@ fn the_fourth_octet_stops_a_run() {
 fn to_start_afresh_forgets_what_is_held() {
     for held in 0..160 {
         let mut link = Link::new();
-        link.take(&S[..held]);
+        let _ = link.take(&S[..held]);
         assert_eq!(link.unfinished(), &S[..held]);
         link.start_afresh();
         assert!(link.unfinished().is_empty());
         assert_eq!(link.take(&H).progress, Progress::Command(H_VERDICT), "{held}");
     }
+}
+
+#[test]
+fn debug_shows_the_state_and_no_memory() {
+    let mut link = Link::new();
+    let _ = link.take(&S[..3]);
+    assert_eq!(format!("{link:?}"), "Link { state: State { held: 3, stopped: 0 }, found: None, .. }");
+    let mut commands = link.commands([[&S[3..], &H].concat()]);
+    assert_eq!(commands.next(), Some(Ok(ACCEPTED)));
+    assert_eq!(
+        format!("{commands:?}"),
+        "Commands { link: Link { state: State { held: 0, stopped: 0 }, found: Some(160), .. }, taken: 157, .. }"
+    );
 }
 
 #[test]

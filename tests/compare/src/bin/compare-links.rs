@@ -36,7 +36,7 @@ fn take(state: State, fragment: &[u8], buffer: &mut [u8], logs: &mut Logs) -> Re
     };
     if let Progress::Command(_) = progress {
         let command = buffer.get(..(state.held as usize).saturating_add(step.taken));
-        lent::verdict(command.ok_or("the command leaves the buffer")?, &mut logs.due);
+        let _ = lent::verdict(command.ok_or("the command leaves the buffer")?, &mut logs.due);
     }
     if logs.lent != logs.due {
         return Err(format!("the log is not as the verdict leaves it; {step:?}"));
