@@ -1,6 +1,6 @@
--- What the answer of a read says.
+-- What the answer of a read says, and whether anything follows.
 use mathlib.Core.Path.{_≡_, refl}
-use mathlib.Core.Bool.{true, false, cond}
+use mathlib.Core.Bool.{Bool, true, false, cond}
 use Prim.Native.Nat.{ℕ, _≤_, min}
 use native.Mathlib.Omega.{arith}
 use borrow.Author.Tests.{eq-eqb, ne-eqb, ltb-true}
@@ -9,9 +9,10 @@ use lib.IntN.{ℤ, pos, negsuc}
 use lib.Signed.{ltZ}
 use Rattle.rules.proofs.Walk.{by-cases}
 use Rattle.io.specs.Counts.{clamped}
+use Rattle.link.specs.declared.Tally.{Tally}
 use Rattle.link.specs.declared.Input.{Input}
 use Rattle.link.specs.declared.Input.the-variants.{Octets, End, Failed}
-use Rattle.link.specs.Promise.{pieceRoom, inputBy, InRoom, InPiece}
+use Rattle.link.specs.Promise.{pieceRoom, inputBy, InRoom, InPiece, isLastAfter, isLast}
 
 module _ (room : ℕ) where
   pub failed-by : (z : ℤ) → ltZ z (pos 0) ≡ true → Failed ≡ inputBy z room
@@ -43,3 +44,14 @@ module _ (room : ℕ) where
 
 pub octets-inside : (i : Input) (count : ℕ) → i ≡ Octets count → (room : ℕ) → InPiece room i → count ≤ room
 octets-inside i count e room h = rw e at (h .inside)
+
+-- ---- whether nothing more is printed
+
+module _ (i : Input) (written : Bool) (t : Tally) where
+  pub last-unwritten : written ≡ false → isLast i written t ≡ true
+  unfolding isLast
+  last-unwritten e = rw e
+
+  pub last-written : written ≡ true → isLast i written t ≡ isLastAfter i t
+  unfolding isLast
+  last-written e = rw e

@@ -50,7 +50,7 @@ module _ (buffer : List ℕ) (pieces : List (List ℕ)) (room : longestCommand �
     -- code), then `end` with commands and acceptances at the end of input, `cut` for an unfinished rest, and a last
     -- line `stopped` with number and place after a refusal at the fourth octet."
     -- Carried by piece-then for the lines of a piece, by lines-first for ordinals and offsets, and by last-left for the
-    -- last line. From 2^64 octets on the counts begin anew.
+    -- last line. Offsets begin anew from 2^64 octets on.
     -- Ruled out: a listing whose offsets count from a piece's start; `end` for a stream that stopped or was cut.
     pub pieces-list-the-stream : listPieces noneYet buffer pieces ≡ streamListing (joined pieces)
     pieces-list-the-stream = pieces-left pieces noneYet buffer none-yet ∙ lines-whole (joined pieces)

@@ -1,5 +1,5 @@
--- 02, [7]: the listing of a stream as `link` prints it, piece by piece. A line for each command as soon as it is whole,
--- with its ordinal, its offset in the stream and its verdict; `stopped` with number and place where the run stops.
+-- The listing of a stream (docs/rules.md, Listing of a stream), piece by piece: a line for each command as soon as it is
+-- whole, with its ordinal, its offset in the stream and its verdict; `stopped` with number and place where the run stops.
 use Prim.Native.Nat.{ℕ, zero, suc, _+_, _%_, _^_}
 use mathlib.Core.List.{List, [], _∷_, _++_}
 use mathlib.Core.Bool.{Bool, cond, not, _||_}
@@ -14,7 +14,7 @@ use Rattle.fragments.specs.declared.Step.{Step}
 use Rattle.fragments.specs.Link.{fresh, step, bufferAfter}
 use Rattle.link.specs.declared.Tally.{Tally}
 
--- counts and offsets are numbers of 64 bits: a stream of 2^64 octets or more would begin anew at 0
+-- counts and offsets are numbers of 64 bits: from 2^64 on they begin anew at 0
 unfoldable pub counted : ℕ → ℕ
 counted n = n % 2 ^ 64
 

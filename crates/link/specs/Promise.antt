@@ -2,7 +2,7 @@
 use mathlib.Core.Path.{_≡_}
 use Prim.Native.Nat.{ℕ, _≤_, min}
 use mathlib.Core.List.{List, []}
-use mathlib.Core.Bool.{Bool, true, cond, not}
+use mathlib.Core.Bool.{Bool, true, cond, not, _||_}
 use lib.IntN.{ℤ, pos, negsuc}
 use lib.Dec.{eqb}
 use lib.ListN.{length, take}
@@ -21,7 +21,7 @@ pieceRoom = 4096
 abbrev pub textRoom : ℕ
 textRoom = 393216
 
--- what a read into this room answered: below 0 it failed, at 0 the input has ended
+-- what a read into this room answered: below 0 it failed; where it gave no octet, the input has ended
 unfoldable pub inputBy : ℤ → ℕ → Input
 inputBy (pos n) room = cond (eqb (min n room) 0) End (Octets (min n room))
 inputBy (negsuc n) room = Failed
@@ -73,8 +73,12 @@ pub record Printed (input : Input) (t : Tally) (piece buffer before : List ℕ) 
     pub within : r .end ≤ textRoom
     pub long : length after ≡ length before
 
--- whether nothing more is printed: at the end of the input, or once the run has stopped
-abbrev pub isLast : Input → Tally → Bool
-isLast (Octets count) t = not (eqb (t .state .stopped) 0)
-isLast End t = true
-isLast Failed t = true
+-- whether nothing more is printed: at the end of the input, once the run has stopped, or after a read or a write that
+-- failed
+abbrev pub isLastAfter : Input → Tally → Bool
+isLastAfter (Octets count) t = not (eqb (t .state .stopped) 0)
+isLastAfter End t = true
+isLastAfter Failed t = true
+
+unfoldable pub isLast : Input → Bool → Tally → Bool
+isLast input written t = not written || isLastAfter input t

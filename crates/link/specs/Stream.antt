@@ -1,4 +1,5 @@
--- 02, [7]: the listing of a whole stream, and what is claimed of the pieces in which it is listed.
+-- The listing of a whole stream (docs/rules.md, Listing of a stream), and what is claimed of the pieces in which it is
+-- listed.
 use Prim.Native.Nat.{ℕ, _+_}
 use mathlib.Core.List.{List, [], _∷_, _++_}
 use mathlib.Core.Bool.{cond}

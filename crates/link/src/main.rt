@@ -201,14 +201,29 @@ fn put_last_line(tally: Tally, out: &mut [u8; TEXT_ROOM]) -> usize
     )
 }
 
-// Whether nothing more is printed: at the end of the input, or once the run has stopped.
-fn is_over(input: Input, tally: Tally) -> bool
-    ensures { λ r. ⌜ r ≡ isLast input tally ⌝ }
+// Whether nothing more is printed: at the end of the input, once the run has stopped, or after a read or a write that
+// failed.
+fn is_last(input: Input, written: bool, tally: Tally) -> bool
+    ensures { λ r. ⌜ r ≡ isLast input written tally ⌝ }
 {
+    if !written {
+        return true;
+    }
     match input {
         Input::Octets(_) => tally.state.stopped != 0,
         Input::End => true,
         Input::Failed => true,
+    }
+}
+
+// Says on standard error what failed, if anything did.
+fn complain(input: Input, written: bool) {
+    if !written {
+        io::write_all(STDERR_FILENO, b"link: writing failed\n");
+        return;
+    }
+    if let Input::Failed = input {
+        io::write_all(STDERR_FILENO, b"link: reading failed\n");
     }
 }
 
@@ -240,8 +255,8 @@ fn put_printed(
     }
 }
 
-// The counter bounds the reads: a stream of 2^64 reads ends without a last line. A listing that could not be written
-// whole lacks at least the end of its last line, and standard error says so.
+// The counter bounds the reads: after 2^64 - 1 of them it ends without a last line. A listing that could not be written
+// whole lacks at least the end of its last line.
 fn main() {
     let mut buffer = [0u8; limits::LONGEST_COMMAND];
     let mut log = [0u32; limits::LOG_NUMBERS];
@@ -253,16 +268,10 @@ fn main() {
         let answer = libc::read(STDIN_FILENO, &mut piece);
         let input = input_of(answer, &piece);
         let line = put_printed(input, tally, &piece, &mut buffer, &mut log, &mut out);
-        if !io::write_all(STDOUT_FILENO, &out[..line.end]) {
-            io::write_all(STDERR_FILENO, b"link: writing failed\n");
-            return;
-        }
-        if let Input::Failed = input {
-            io::write_all(STDERR_FILENO, b"link: reading failed\n");
-            return;
-        }
+        let written = io::write_all(STDOUT_FILENO, &out[..line.end]);
         tally = line.tally;
-        if is_over(input, tally) {
+        if is_last(input, written, tally) {
+            complain(input, written);
             return;
         }
         reads -= 1;

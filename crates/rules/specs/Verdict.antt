@@ -20,7 +20,7 @@ readerNumbers =
     -- longer than 16,384, which the writer says too; 257th AVP, group at depth 4; error answer
     ∷ 7001 ∷ 7002 ∷ 7003 ∷ 7005 ∷ []
 
--- the table's numbers that only the writer gives: output too short, malformed draft
+-- the table's numbers that the reader of a command never gives: output too short, malformed draft
 unfoldable pub writerOnlyNumbers : List ℕ
 writerOnlyNumbers = 7004 ∷ 7006 ∷ []
 

@@ -1,8 +1,8 @@
--- `link::main` meets its contract.
+-- `link::main` meets its contract: before each turn the arrays have the lengths that they were made with.
 use borrow.Author.Needs.{needs}
 use mathlib.Core.Path.{_≡_, sym, _∙_}
-use native.Mathlib.Omega.{arith}
 use Prim.Native.Nat.{ℕ}
+use native.Mathlib.Omega.{arith}
 use lib.ListN.{length, length-replicate}
 use lib.Seq.{length-take-le}
 use Rattle.link.specs.Promise.{pieceRoom, textRoom}
@@ -11,11 +11,11 @@ use Rattle.link.proofs.main.Statement.{statement}
 use Rattle.link.proofs.main.Tie as tie
 
 abbrev Inv-loop : tie.InvT-loop
-Inv-loop buffer₀ log₀ piece₀ out₀ tally₀ reads₀ t10 t11 buffer log piece out tally reads =
+Inv-loop buffer₀ log₀ piece₀ out₀ tally₀ reads₀ buffer log piece out tally reads =
     (length piece ≡ pieceRoom) × (length out ≡ textRoom)
 
 abbrev μ-loop : tie.MeasureT-loop
-μ-loop buffer₀ log₀ piece₀ out₀ tally₀ reads₀ t10 t11 buffer log piece out tally reads = reads
+μ-loop buffer₀ log₀ piece₀ out₀ tally₀ reads₀ buffer log piece out tally reads = reads
 
 none-yet-requires : tie.Need-none-yet-requires Inv-loop μ-loop
 none-yet-requires c κs = search needs
@@ -55,32 +55,14 @@ slice-aggregate-write-all c = sym (length-take-le _ _ (array-share-prefix-out (c
 write-all-requires : tie.Need-write-all-requires Inv-loop μ-loop
 write-all-requires c κs = search needs
 
-slice-aggregate-write-all-2 : tie.Need-slice-aggregate-write-all-2 Inv-loop μ-loop
-slice-aggregate-write-all-2 c = search needs
+is-last-requires : tie.Need-is-last-requires Inv-loop μ-loop
+is-last-requires c κs = search needs
 
-write-all-requires-2 : tie.Need-write-all-requires-2 Inv-loop μ-loop
-write-all-requires-2 c κs = search needs
+complain-requires : tie.Need-complain-requires Inv-loop μ-loop
+complain-requires c κs = search needs
 
 returns : tie.Need-returns Inv-loop μ-loop
 returns c = search needs
-
-enum-told : tie.Need-enum-told Inv-loop μ-loop
-enum-told c = search needs
-
-slice-aggregate-write-all-3 : tie.Need-slice-aggregate-write-all-3 Inv-loop μ-loop
-slice-aggregate-write-all-3 c = search needs
-
-write-all-requires-3 : tie.Need-write-all-requires-3 Inv-loop μ-loop
-write-all-requires-3 c κs = search needs
-
-returns-2 : tie.Need-returns-2 Inv-loop μ-loop
-returns-2 c = search needs
-
-is-over-requires : tie.Need-is-over-requires Inv-loop μ-loop
-is-over-requires c κs = search needs
-
-returns-3 : tie.Need-returns-3 Inv-loop μ-loop
-returns-3 c = search needs
 
 sub-reads : tie.Need-sub-reads Inv-loop μ-loop
 sub-reads c = search needs
@@ -90,12 +72,12 @@ loop-less c = search needs
 
 loop-again : tie.Need-loop-again Inv-loop μ-loop
 loop-again c =
-    let p = c .before .before .before .before .before .before .before in
+    let p = c .before .before .before .before .before in
     let at-loop = p .before .before .before .before .before .before .before .before .before .before .before in
     (omega (arith, at-loop .loop .inv .0), p .put-printed .ensures .long ∙ at-loop .loop .inv .1)
 
-returns-4 : tie.Need-returns-4 Inv-loop μ-loop
-returns-4 c = search needs
+returns-2 : tie.Need-returns-2 Inv-loop μ-loop
+returns-2 c = search needs
 
 pub main-spec : {M : Type 1} → statement M
 main-spec =
@@ -114,16 +96,10 @@ main-spec =
     array-share-prefix-out
     slice-aggregate-write-all
     write-all-requires
-    slice-aggregate-write-all-2
-    write-all-requires-2
+    is-last-requires
+    complain-requires
     returns
-    enum-told
-    slice-aggregate-write-all-3
-    write-all-requires-3
-    returns-2
-    is-over-requires
-    returns-3
     sub-reads
     loop-less
     loop-again
-    returns-4)
+    returns-2)
