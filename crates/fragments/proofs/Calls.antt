@@ -110,7 +110,7 @@ module _ (st : State) (fragment buffer : List ℕ) (room : longestCommand ≤ le
         omega arith
 
     -- the octets held with those taken stand at the buffer's start
-    held-after : take (length (heldWith st fragment buffer)) (bufferAfter st fragment buffer)
+    pub held-after : take (length (heldWith st fragment buffer)) (bufferAfter st fragment buffer)
         ≡ heldWith st fragment buffer
     held-after =
         let t = takenOf st fragment buffer in
@@ -162,7 +162,7 @@ module _ (st : State) (fragment buffer : List ℕ) (room : longestCommand ≤ le
           let g = goal-over in
           omega arith
 
-      held-goal : heldWith st fragment buffer ≡ take (goal all) all
+      pub held-goal : heldWith st fragment buffer ≡ take (goal all) all
       held-goal =
           let g = goal-over in
           let l = held-many in

@@ -17,3 +17,4 @@ pub mod Offers
 -- and request [7]'s claims as theorems
 pub mod Cuttings
 pub mod Refusals
+pub mod Found
