@@ -1,4 +1,6 @@
--- The laws of a link. One call:
+-- The laws of a link. Its bounds:
+pub mod Bounds
+-- one call:
 pub mod Goals
 pub mod Usable
 pub mod Fronts
