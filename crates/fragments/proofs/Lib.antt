@@ -19,4 +19,5 @@ pub mod Offers
 -- and request [7]'s claims as theorems
 pub mod Cuttings
 pub mod Refusals
+pub mod Held
 pub mod Found
