@@ -99,7 +99,7 @@ module _ (st : State) (fragment buffer : List ℕ) (room : longestCommand ≤ le
     taken-to-goal = let g = goal-over in omega arith
 
     -- what is taken lies in the fragment and fits into the buffer
-    taken-in-fragment : takenOf st fragment buffer ≤ length fragment
+    pub taken-in-fragment : takenOf st fragment buffer ≤ length fragment
     unfolding takenOf
     taken-in-fragment = omega arith
 
@@ -129,7 +129,7 @@ module _ (st : State) (fragment buffer : List ℕ) (room : longestCommand ≤ le
 
     -- octets that stay short of their goal: the whole fragment is taken and held
     module _ (less : length all < goal all) where
-      taken-all : takenOf st fragment buffer ≡ length fragment
+      pub taken-all : takenOf st fragment buffer ≡ length fragment
       unfolding takenOf
       taken-all = let l = offered-long in omega arith
 
@@ -155,7 +155,7 @@ module _ (st : State) (fragment buffer : List ℕ) (room : longestCommand ≤ le
 
     -- octets that reach it: the fragment is taken up to it
     module _ (reached : goal all ≤ length all) where
-      taken-goal : takenOf st fragment buffer ≡ goal all - st .held
+      pub taken-goal : takenOf st fragment buffer ≡ goal all - st .held
       unfolding takenOf
       taken-goal =
           let l = offered-long in

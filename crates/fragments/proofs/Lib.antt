@@ -18,6 +18,7 @@ pub mod Turns
 pub mod Offers
 -- and request [7]'s claims as theorems
 pub mod Cuttings
+pub mod Moments
 pub mod Refusals
 pub mod Held
 pub mod Found
