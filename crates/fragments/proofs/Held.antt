@@ -1,7 +1,6 @@
 -- What a call reads of the buffer: the octets held, and none behind them. Above the theorem: the words of request [7]
 -- that it meets, what carries it, and two wrong systems that it rules out.
 use mathlib.Core.Path.{_≡_, sym, ap, _∙_}
-use mathlib.Core.Bool.{true, false}
 use mathlib.Core.List.{List}
 use Prim.Native.Nat.{ℕ, _≤_}
 use native.Mathlib.Omega.{arith}

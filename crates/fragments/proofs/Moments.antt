@@ -1,7 +1,7 @@
 -- A run at every moment: what its calls have come to so far is what the octets taken so far give uncut. Calls are cut
 -- off behind what they take, which leaves their answers; so they are a cutting of these octets.
 use mathlib.Core.Path.{_≡_, refl, sym, ap, _∙_, subst}
-use mathlib.Core.Bool.{true, false}
+use mathlib.Core.Bool.{true}
 use mathlib.Core.Logic.{inl}
 use mathlib.Core.List.{List, [], _∷_, _++_, map}
 use Prim.Native.Nat.{ℕ, _+_, _-_, _≤_, min}
@@ -16,9 +16,9 @@ use Rattle.rules.proofs.Walk.{by-cases}
 use Rattle.fragments.specs.declared.State.{State}
 use Rattle.fragments.specs.declared.Step.{Step}
 use Rattle.fragments.specs.Link.{isUsable, goal, progressOf, stepBy, heldIn, takenOf, onward, step}
-use Rattle.fragments.specs.Run.{Call, answer, left, told, verdictsOf, takenBy, restOf, StartsAfresh, KeepsBuffer, LendsEnough, HandsBack, Begins, OffersAgain, AsUncut}
+use Rattle.fragments.specs.Run.{Call, answer, left, told, verdictsOf, takenBy, restOf, StartsAfresh, KeepsBuffer, LendsEnough, HandsBack, OffersAgain, AsUncut}
 use Rattle.fragments.proofs.Fronts.{front-goal}
-use Rattle.fragments.proofs.Calls.{offered, goal-over, taken-is, taken-within, taken-in-fragment, taken-all, taken-goal, held-goal, step-7004, step-7009, step-onward}
+use Rattle.fragments.proofs.Calls.{offered, taken-is, taken-within, taken-in-fragment, taken-all, taken-goal, held-goal, step-7004, step-7009, step-onward}
 use Rattle.fragments.proofs.Cuttings.{cutting-as-uncut}
 
 -- ---- a call whose fragment ends with what is taken of it

@@ -45,7 +45,9 @@ unfolding isWhole
 short-not-whole s h =
     by-cases (leb fieldEnd (length s))
     (λ four. by-cases (isLength (lengthField s))
-    (λ e. let g = goal-field s (leb-true _ _ four) e in rw (four, range-is (lengthField s), e, lt-leb (lengthField s) (length s) (omega arith)))
+    (λ e.
+    let g = goal-field s (leb-true _ _ four) e in
+    rw (four, range-is (lengthField s), e, lt-leb (lengthField s) (length s) (omega arith)))
     (λ e. rw (four, range-is (lengthField s), e)))
     (λ few. rw few)
 
