@@ -99,7 +99,7 @@ module _ (st : State) (fragment buffer : List ℕ) (room : longestCommand ≤ le
     taken-to-goal = let g = goal-over in omega arith
 
     -- what is taken lies in the fragment and fits into the buffer
-    taken-in-fragment : takenOf st fragment buffer ≤ length fragment
+    pub taken-in-fragment : takenOf st fragment buffer ≤ length fragment
     unfolding takenOf
     taken-in-fragment = omega arith
 
@@ -110,7 +110,7 @@ module _ (st : State) (fragment buffer : List ℕ) (room : longestCommand ≤ le
         omega arith
 
     -- the octets held with those taken stand at the buffer's start
-    held-after : take (length (heldWith st fragment buffer)) (bufferAfter st fragment buffer)
+    pub held-after : take (length (heldWith st fragment buffer)) (bufferAfter st fragment buffer)
         ≡ heldWith st fragment buffer
     held-after =
         let t = takenOf st fragment buffer in
@@ -129,7 +129,7 @@ module _ (st : State) (fragment buffer : List ℕ) (room : longestCommand ≤ le
 
     -- octets that stay short of their goal: the whole fragment is taken and held
     module _ (less : length all < goal all) where
-      taken-all : takenOf st fragment buffer ≡ length fragment
+      pub taken-all : takenOf st fragment buffer ≡ length fragment
       unfolding takenOf
       taken-all = let l = offered-long in omega arith
 
@@ -155,14 +155,14 @@ module _ (st : State) (fragment buffer : List ℕ) (room : longestCommand ≤ le
 
     -- octets that reach it: the fragment is taken up to it
     module _ (reached : goal all ≤ length all) where
-      taken-goal : takenOf st fragment buffer ≡ goal all - st .held
+      pub taken-goal : takenOf st fragment buffer ≡ goal all - st .held
       unfolding takenOf
       taken-goal =
           let l = offered-long in
           let g = goal-over in
           omega arith
 
-      held-goal : heldWith st fragment buffer ≡ take (goal all) all
+      pub held-goal : heldWith st fragment buffer ≡ take (goal all) all
       held-goal =
           let g = goal-over in
           let l = held-many in

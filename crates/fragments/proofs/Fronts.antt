@@ -42,7 +42,7 @@ module _ (s : List ℕ) (reached : goal s ≤ length s) where
       let b = goal-bounds s .0 in
       omega arith
 
-  front-goal : goal front ≡ goal s
+  pub front-goal : goal front ≡ goal s
   front-goal = sym (goal-first front (drop (goal s) s) front-four) ∙ ap goal (take-append-drop (goal s) s)
 
   front-field : lengthField front ≡ lengthField s

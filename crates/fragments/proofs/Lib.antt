@@ -1,4 +1,6 @@
--- The laws of a link. One call:
+-- The laws of a link. Its bounds:
+pub mod Bounds
+-- one call:
 pub mod Goals
 pub mod Usable
 pub mod Fronts
@@ -16,4 +18,7 @@ pub mod Turns
 pub mod Offers
 -- and request [7]'s claims as theorems
 pub mod Cuttings
+pub mod Moments
 pub mod Refusals
+pub mod Held
+pub mod Found

@@ -2,7 +2,7 @@
 -- the words of request [7] that it meets, what carries it, and two wrong systems that it rules out.
 use mathlib.Core.Path.{_≡_, refl, sym, ap, _∙_}
 use mathlib.Core.Bool.{Bool, true, false, cond, _||_}
-use mathlib.Core.Logic.{_⊎_, ⊎-elim}
+use mathlib.Core.Logic.{_⊎_, inr, ⊎-elim}
 use mathlib.Core.List.{List}
 use Prim.Native.Nat.{ℕ, _≤_, _<_}
 use native.Mathlib.Omega.{arith}
@@ -105,6 +105,16 @@ onward-not-of-call =
 of-call : (n : ℕ) → (n ≡ 7004) ⊎ (n ≡ 7009) → ofCall n ≡ true
 of-call n = ⊎-elim (λ e. rw e) (λ e. rw e)
 
+-- a call that goes on is never refused so
+goes-on-unrefused : (st : State) (fragment buffer : List ℕ) (v : Verdict)
+    → step st fragment buffer .progress ≡ Refusal v → (v .number ≡ 7004) ⊎ (v .number ≡ 7009)
+    → longestCommand ≤ length buffer → isUsable st buffer ≡ true
+    → false ≡ true
+goes-on-unrefused st fragment buffer v e n room u =
+    let other : notOfCall (Refusal v) ≡ true =
+    ap notOfCall (sym e) ∙ onward-meets notOfCall onward-not-of-call st fragment buffer room u in
+    rw (of-call (v .number) n) at other
+
 kept-by : (number : ℕ) (st : State) (fragment buffer : List ℕ) → step st fragment buffer ≡ refusedCall number st
     → (step st fragment buffer .taken ≡ 0)
     × ((step st fragment buffer .state ≡ st) × (bufferAfter st fragment buffer ≡ buffer))
@@ -113,7 +123,7 @@ kept-by number st fragment buffer is =
     (t, (ap (λ (t : Step). t .state) is, nothing-stored st fragment buffer t))
 
 -- "Refusals, the first two taking nothing and keeping the state", and "stores only the octets it took".
--- Carried by onward-meets: a call that goes on is never refused so.
+-- Carried by goes-on-unrefused.
 -- Ruled out: a call that stops the run, or loses what is held, because it was lent too short a buffer once; one that
 -- stores octets of the fragment before it looks at the state.
 pub refused-calls : (st : State) (fragment buffer : List ℕ) (v : Verdict)
@@ -127,12 +137,36 @@ refused-calls st fragment buffer v e n =
     let r : longestCommand ≤ length buffer = ltb-false _ _ room in
     by-cases (isUsable st buffer)
     (λ u.
-    let other : notOfCall (Refusal v) ≡ true =
-    ap notOfCall (sym e) ∙ onward-meets notOfCall onward-not-of-call st fragment buffer r u in
-    let f : false ≡ true = rw (of-call (v .number) n) at other in
+    let f = goes-on-unrefused st fragment buffer v e n r u in
     let z : _≡_ {A = ℕ} 0 1 = cc in
     absurd (omega arith))
     (λ u. kept-by 7009 st fragment buffer (step-7009 st fragment buffer r u)))
+
+abbrev numberIn : Progress → ℕ
+numberIn Unfinished = 0
+numberIn (Command v) = 0
+numberIn (Refusal v) = v .number
+
+-- "then 7009, also for a state whose held octets ...": for such a state alone, so for none that a run hands back before
+-- it stops.
+-- Carried by goes-on-unrefused.
+-- Ruled out: a reader that tells 7009 for an empty fragment, or now and then in a run that goes on, which the verdicts
+-- "7009 apart" do not show.
+pub refused-7009 : (st : State) (fragment buffer : List ℕ) (v : Verdict) → step st fragment buffer .progress ≡ Refusal v
+    → v .number ≡ 7009 → isUsable st buffer ≡ false
+refused-7009 st fragment buffer v e n =
+    by-cases (isUsable st buffer)
+    (λ u.
+    by-cases (ltb (length buffer) longestCommand)
+    (λ few.
+    let m : v .number ≡ 7004 =
+    ap numberIn (sym e) ∙ ap (λ (t : Step). numberIn (t .progress)) (step-7004 st fragment buffer (ltb-true _ _ few)) in
+    absurd (omega arith))
+    (λ room.
+    let f = goes-on-unrefused st fragment buffer v e (inr n) (ltb-false _ _ room) u in
+    let z : _≡_ {A = ℕ} 0 1 = cc in
+    absurd (omega arith)))
+    (λ u. u)
 
 -- ---- a run that has stopped
 

@@ -15,7 +15,8 @@ use Rattle.rules.specs.Book.{joined}
 use Rattle.rules.proofs.Tests.{and-true}
 use Rattle.rules.proofs.Walk.{by-cases}
 use Rattle.fragments.specs.Link.{fieldEnd, isLength, goal, lengthRefusal}
-use Rattle.fragments.specs.Run.{isWhole, commandsIn, commandsOf, behindOf, stops, verdictsUncut, restUncut, takenUncut}
+use Rattle.fragments.specs.Run.{inRange, isWhole, commandsIn, commandsOf, behindOf, stops, verdictsUncut, restUncut, takenUncut}
+use Rattle.fragments.proofs.Bounds.{range-is, stop-is}
 use Rattle.fragments.proofs.Goals.{length-bounds, goal-field, goal-refused}
 
 -- ---- what a test for a whole command tells
@@ -27,15 +28,16 @@ pub record Whole (s : List ℕ) : Type 0 where
 pub whole : (s : List ℕ) → isWhole s ≡ true → Whole s
 unfolding isWhole
 whole s e =
-    let x = and-true (leb fieldEnd (length s) && isLength (lengthField s)) (leb (lengthField s) (length s)) e in
-    let y = and-true (leb fieldEnd (length s)) (isLength (lengthField s)) (x .0) in
-    record { enough = length-bounds (lengthField s) (y .1) .0; within = leb-true _ _ (x .1) }
+    let x = and-true (leb fieldEnd (length s) && inRange (lengthField s)) (leb (lengthField s) (length s)) e in
+    let y = and-true (leb fieldEnd (length s)) (inRange (lengthField s)) (x .0) in
+    let r = sym (range-is (lengthField s)) ∙ y .1 in
+    record { enough = length-bounds (lengthField s) r .0; within = leb-true _ _ (x .1) }
 
 pub is-whole : (s : List ℕ) → isLength (lengthField s) ≡ true → lengthField s ≤ length s → isWhole s ≡ true
 unfolding isWhole
 is-whole s e h =
     let b = length-bounds (lengthField s) e .0 in
-    rw (le-leb fieldEnd (length s) (omega arith), e, le-leb (lengthField s) (length s) h)
+    rw (le-leb fieldEnd (length s) (omega arith), range-is (lengthField s), e, le-leb (lengthField s) (length s) h)
 
 -- octets that have not reached their goal
 pub short-not-whole : (s : List ℕ) → length s < goal s → isWhole s ≡ false
@@ -43,8 +45,10 @@ unfolding isWhole
 short-not-whole s h =
     by-cases (leb fieldEnd (length s))
     (λ four. by-cases (isLength (lengthField s))
-    (λ e. let g = goal-field s (leb-true _ _ four) e in rw (four, e, lt-leb (lengthField s) (length s) (omega arith)))
-    (λ e. rw (four, e)))
+    (λ e.
+    let g = goal-field s (leb-true _ _ four) e in
+    rw (four, range-is (lengthField s), e, lt-leb (lengthField s) (length s) (omega arith)))
+    (λ e. rw (four, range-is (lengthField s), e)))
     (λ few. rw few)
 
 pub short-not-stops : (s : List ℕ) → length s < goal s → stops s ≡ false
@@ -53,7 +57,7 @@ short-not-stops s h =
     by-cases (leb fieldEnd (length s))
     (λ four.
     let k : fieldEnd ≤ length s = leb-true _ _ four in
-    by-cases (isLength (lengthField s)) (λ e. rw (four, e))
+    by-cases (isLength (lengthField s)) (λ e. rw (four, range-is (lengthField s), e))
     (λ e. let g = goal-refused s k e in absurd (omega arith)))
     (λ few. rw few)
 
@@ -142,7 +146,7 @@ module _ (s : List ℕ) (e : isWhole s ≡ false) where
 
   verdicts-by : verdictsUncut s ≡ cond (stops s) (lengthRefusal (lengthField s) ∷ []) []
   unfolding verdictsUncut
-  verdicts-by = rw (behind-all, commands-none (length s))
+  verdicts-by = rw (behind-all, commands-none (length s), stop-is (lengthField s))
 
 -- all of it is the unfinished rest
 module _ (s : List ℕ) (h : length s < goal s) where
@@ -159,11 +163,11 @@ module _ (s : List ℕ) (h : length s < goal s) where
 module _ (s : List ℕ) (four : fieldEnd ≤ length s) (e : isLength (lengthField s) ≡ false) where
   pub stopped-not-whole : isWhole s ≡ false
   unfolding isWhole
-  stopped-not-whole = rw (le-leb fieldEnd (length s) four, e)
+  stopped-not-whole = rw (le-leb fieldEnd (length s) four, range-is (lengthField s), e)
 
   pub is-stopped : stops s ≡ true
   unfolding stops
-  is-stopped = rw (le-leb fieldEnd (length s) four, e)
+  is-stopped = rw (le-leb fieldEnd (length s) four, range-is (lengthField s), e)
 
   pub verdicts-stopped : verdictsUncut s ≡ lengthRefusal (lengthField s) ∷ []
   verdicts-stopped = verdicts-by s stopped-not-whole ∙ rw is-stopped

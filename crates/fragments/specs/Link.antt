@@ -75,7 +75,7 @@ takenOf st fragment buffer = min (length fragment) (goal (heldIn st buffer ++ fr
 abbrev pub heldWith : State → List ℕ → List ℕ → List ℕ
 heldWith st fragment buffer = heldIn st buffer ++ take (takenOf st fragment buffer) fragment
 
--- the answer where octets are taken
+-- the answer of a call that is refused with neither 7004 nor 7009
 unfoldable pub onward : State → List ℕ → List ℕ → Step
 onward st fragment buffer =
     let s = heldWith st fragment buffer in

@@ -8,8 +8,9 @@ use Prim.Native.Nat.{ℕ, zero, suc, _+_, _≤_}
 use mathlib.Core.List.{List, [], _∷_, _++_, map}
 use mathlib.Core.Bool.{Bool, true, false, cond, not, _&&_}
 use lib.ListN.{length, take, drop}
-use lib.Dec.{leb, eqb}
+use lib.Dec.{ltb, leb, eqb}
 use Rattle.rules.specs.declared.Verdict.{Verdict}
+use Rattle.rules.specs.Verdict.{verdict}
 use Rattle.rules.specs.Header.{lengthField, longestCommand}
 use Rattle.rules.specs.Command.{commandVerdict}
 use Rattle.rules.specs.Book.{joined}
@@ -17,13 +18,21 @@ use Rattle.fragments.specs.declared.State.{State}
 use Rattle.fragments.specs.declared.Progress.{Progress}
 use Rattle.fragments.specs.declared.Progress.the-variants.{Unfinished, Command, Refusal}
 use Rattle.fragments.specs.declared.Step.{Step}
-use Rattle.fragments.specs.Link.{fresh, fieldEnd, isLength, lengthRefusal, step, bufferAfter, heldIn}
+use Rattle.fragments.specs.Link.{fresh, step, bufferAfter, heldIn}
 
 -- ---- a run uncut: it is cut by its length fields alone
 
+-- "a length field of 20 to 16,384", counted apart from Link's own, so that a wrong bound there breaks the theorem
+unfoldable pub inRange : ℕ → Bool
+inRange n = leb 20 n && leb n 16384
+
+-- "5015 at 1 for a length field under 20 and 7001 at 1 above 16,384", counted apart too
+unfoldable pub stopVerdict : ℕ → Verdict
+stopVerdict n = cond (ltb n 20) (verdict 5015 1 0 0) (verdict 7001 1 0 0)
+
 -- whether octets begin with a whole command, 20 to 16,384 octets long by its length field
 unfoldable pub isWhole : List ℕ → Bool
-isWhole s = leb fieldEnd (length s) && isLength (lengthField s) && leb (lengthField s) (length s)
+isWhole s = leb 4 (length s) && inRange (lengthField s) && leb (lengthField s) (length s)
 
 -- the whole commands at the start of octets. The first argument bounds their number; as many as there are octets is
 -- enough
@@ -40,17 +49,17 @@ behindOf run = drop (length (joined (commandsOf run))) run
 
 -- whether octets behind a command stop the run: a length field stands there, under 20 or above 16,384
 unfoldable pub stops : List ℕ → Bool
-stops s = leb fieldEnd (length s) && not (isLength (lengthField s))
+stops s = leb 4 (length s) && not (inRange (lengthField s))
 
 -- the verdicts: the reader's of each command, and the refusal that stops the run
 unfoldable pub verdictsUncut : List ℕ → List Verdict
 verdictsUncut run =
     map commandVerdict (commandsOf run)
-    ++ cond (stops (behindOf run)) (lengthRefusal (lengthField (behindOf run)) ∷ []) []
+    ++ cond (stops (behindOf run)) (stopVerdict (lengthField (behindOf run)) ∷ []) []
 
 -- the unfinished rest: the octets behind the last command, where the run stops the four of them that were taken
 unfoldable pub restUncut : List ℕ → List ℕ
-restUncut run = cond (stops (behindOf run)) (take fieldEnd (behindOf run)) (behindOf run)
+restUncut run = cond (stops (behindOf run)) (take 4 (behindOf run)) (behindOf run)
 
 -- octets taken in total
 unfoldable pub takenUncut : List ℕ → ℕ

@@ -15,7 +15,8 @@ use Rattle.rules.specs.Command.{commandVerdict}
 use Rattle.rules.specs.Lines.{commandLine, cutLine, endLine, stoppedLine}
 use Rattle.rules.specs.Book.{acceptance, joined, commandLines, acceptedOf}
 use Rattle.fragments.specs.Link.{fieldEnd, isLength, goal, lengthRefusal}
-use Rattle.fragments.specs.Run.{isWhole, commandsOf, behindOf, stops}
+use Rattle.fragments.specs.Run.{stopVerdict, isWhole, commandsOf, behindOf, stops}
+use Rattle.fragments.proofs.Bounds.{stop-is}
 use Rattle.fragments.proofs.Uncut.{whole, short-not-whole, short-not-stops, commands-of, joined-long, behind-of, commands-none, behind-all, stopped-not-whole, is-stopped}
 use Rattle.link.specs.Stream.{endingOf, stopOf, streamListing}
 
@@ -23,7 +24,7 @@ use Rattle.link.specs.Stream.{endingOf, stopOf, streamListing}
 -- come, only that of a stream that stops
 unfoldable pub endingFrom : Bool → ℕ → ℕ → ℕ → List ℕ → List ℕ
 endingFrom over commands accepted offset rest =
-    cond (stops rest) (stoppedLine (commands + 1) offset (lengthRefusal (lengthField rest)))
+    cond (stops rest) (stoppedLine (commands + 1) offset (stopVerdict (lengthField rest)))
     (cond over (cond (eqb (length rest) 0) (endLine commands accepted) (cutLine (commands + 1) offset)) [])
 
 -- the lines of a stream that goes on with these octets
@@ -112,7 +113,7 @@ module _ (over : Bool) (commands accepted offset : ℕ) (s : List ℕ) where
   pub lines-stopped : fieldEnd ≤ length s → isLength (lengthField s) ≡ false
       → linesUncut over commands accepted offset s ≡ stoppedLine (commands + 1) offset (lengthRefusal (lengthField s))
   unfolding endingFrom
-  lines-stopped four e = lines-none (stopped-not-whole s four e) ∙ rw (is-stopped s four e)
+  lines-stopped four e = lines-none (stopped-not-whole s four e) ∙ rw (is-stopped s four e, stop-is (lengthField s))
 
 -- unfinished octets: the end where there are none, else a cut; no line where more may come
 module _ (commands accepted offset : ℕ) (s : List ℕ) (less : length s < goal s) where

@@ -8,8 +8,7 @@ use lib.Dec.{eqb}
 use Rattle.rules.specs.Header.{lengthField}
 use Rattle.rules.specs.Lines.{cutLine, endLine, stoppedLine}
 use Rattle.rules.specs.Book.{joined, commandLines, acceptedOf}
-use Rattle.fragments.specs.Link.{lengthRefusal}
-use Rattle.fragments.specs.Run.{commandsOf, behindOf, stops}
+use Rattle.fragments.specs.Run.{stopVerdict, commandsOf, behindOf, stops}
 use Rattle.link.specs.declared.Tally.{Tally}
 use Rattle.link.specs.Listing.{listPiece, lastLine}
 
@@ -33,7 +32,7 @@ unfoldable pub endingOf : List ℕ → List ℕ
 endingOf stream =
     let commands = commandsOf stream in
     let rest = behindOf stream in
-    cond (stops rest) (stoppedLine (length commands + 1) (length (joined commands)) (lengthRefusal (lengthField rest)))
+    cond (stops rest) (stoppedLine (length commands + 1) (length (joined commands)) (stopVerdict (lengthField rest)))
     (cond (eqb (length rest) 0) (endLine (length commands) (acceptedOf commands))
     (cutLine (length commands + 1) (length (joined commands))))
 
@@ -42,7 +41,7 @@ unfoldable pub stopOf : List ℕ → List ℕ
 stopOf stream =
     let commands = commandsOf stream in
     let rest = behindOf stream in
-    cond (stops rest) (stoppedLine (length commands + 1) (length (joined commands)) (lengthRefusal (lengthField rest)))
+    cond (stops rest) (stoppedLine (length commands + 1) (length (joined commands)) (stopVerdict (lengthField rest)))
     []
 
 -- the listing of a stream: a line for each command, cut by the length fields alone, and the last line
