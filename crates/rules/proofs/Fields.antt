@@ -7,6 +7,7 @@ use native.Mathlib.Omega.{arith}
 use lib.Dec.{lit≤}
 use Rattle.rules.specs.Octets.{numberAt, padded}
 use Rattle.rules.specs.Avp.{codeAt, flagsAt, flagV, flagM, flagP, lengthAt, headerOf, avpAt, endOf}
+use Rattle.rules.proofs.Octets.{padded-behind}
 
 module _ (s : List ℕ) (at depth : ℕ) where
   -- the AVP at a place, where V is known
@@ -37,9 +38,8 @@ header-least false = lit≤ tt
 
 -- a header has a multiple of four octets
 pub padded-header : (v : Bool) (n : ℕ) → padded (headerOf v + n) ≡ headerOf v + padded n
-unfolding padded
-padded-header true n = omega arith
-padded-header false n = omega arith
+padded-header true n = padded-behind 3 n
+padded-header false n = padded-behind 2 n
 
 pub avpAt-depth : (s : List ℕ) (at depth : ℕ) → avpAt s at depth .depth ≡ depth
 unfolding avpAt

@@ -1,7 +1,7 @@
 -- Laws of octets and numbers: big-endian numbers over the width, in the form in which code reads them.
 use mathlib.Core.Path.{_≡_, refl, sym, ap, _∙_}
 use mathlib.Core.List.{List, [], _∷_, _++_}
-use Prim.Native.Nat.{ℕ, zero, suc, _+_, _-_, _*_, _^_, _≤_, _<_}
+use Prim.Native.Nat.{ℕ, zero, suc, _+_, _-_, _*_, _/_, _^_, _≤_, _<_}
 use native.Mathlib.Nat.{sub-zero, zero-sub, add-zero, mul-assoc, pow-suc, one-le-pow}
 use native.Mathlib.Omega.{arith}
 use native.Mathlib.Numerals.{add-one}
@@ -59,7 +59,8 @@ numberAt-digits w s at h = numberAt-in w s at h ∙ number-digits w s at h
 pub no-number : (w : ℕ) (s : List ℕ) (at : ℕ) → length s < at + w → IsNumber w (numberAt w s at) 0
 no-number w s at h = record { is = sym (numberAt-out w s at h); below = one-le-pow w 256 (lit< tt) }
 
--- padding fills a length to a multiple of four, and no further
+-- ---- a length with padding
+
 pub padded-least : (n : ℕ) → n ≤ padded n
 unfolding padded
 padded-least n = omega arith
@@ -67,6 +68,20 @@ padded-least n = omega arith
 pub padded-near : (n : ℕ) → padded n ≤ n + 3
 unfolding padded
 padded-near n = omega arith
+
+pub padded-words : (n : ℕ) → padded n ≡ padded n / 4 * 4
+unfolding padded
+padded-words n = omega arith
+
+-- a multiple of four needs no padding
+pub padded-even : (n k : ℕ) → n ≡ k * 4 → padded n ≡ n
+unfolding padded
+padded-even n k e = omega arith
+
+-- and adds none in front of a length
+pub padded-behind : (k n : ℕ) → padded (k * 4 + n) ≡ k * 4 + padded n
+unfolding padded
+padded-behind k n = omega arith
 
 -- ---- numbers in a part of a list
 

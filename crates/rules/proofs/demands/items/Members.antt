@@ -7,13 +7,12 @@ use Prim.Native.Nat.{ℕ, _+_}
 use native.Mathlib.Omega.{arith}
 use borrow.Author.Tests.{lt-ltb, le-ltb, ltb-true, ltb-false, eqb-true, eqb-false}
 use lib.Dec.{ltb, eqb}
-use Rattle.rules.specs.Octets.{padded}
 use Rattle.rules.specs.Dictionary.{Entry}
 use Rattle.rules.specs.Meaning.{Cell}
 use Rattle.rules.specs.Draft.{isTree, fullSize, membersSize, hasSizes}
 use Rattle.rules.proofs.Walk.{by-cases}
 use Rattle.rules.proofs.demands.items.Items.{ownSize, sizeUnder, hasSizesUnder}
-use Rattle.rules.proofs.demands.items.Trees.{Shallow, isGroupCell, Stands, stands, Sized, sized, under-shallow, under-words}
+use Rattle.rules.proofs.demands.items.Trees.{Shallow, isGroupCell, Stands, stands, Sized, sized, under-shallow, even-of}
 
 module _ (dict : List Entry) where
   tree-shallow : (d : ℕ) (cs : List Cell) → isTree d dict cs ≡ true → Shallow d cs
@@ -23,10 +22,10 @@ module _ (dict : List Entry) where
   -- an AVP in full is what it has of its own and all that is under it
   full-is : (most : ℕ) (c : Cell) (cs : List Cell) → Stands dict most c cs → Sized dict c cs
       → fullSize c ≡ ownSize dict c + sizeUnder (c .depth) dict cs
-  unfolding ownSize padded
+  unfolding ownSize
   full-is most c cs t s =
       by-cases (isGroupCell dict c)
-      (λ g. let w = under-words dict (c .depth) cs in rw g (omega (arith, s .one g, w .1)))
+      (λ g. rw g (omega (arith, s .one g, even-of dict c cs s g)))
       (λ g.
       let n : isTree (c .depth) dict cs ≡ true = rw g at (t .rest) in
       let u = under-shallow dict (c .depth) cs (tree-shallow (c .depth) cs n) in

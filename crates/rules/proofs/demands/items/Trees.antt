@@ -15,7 +15,7 @@ use Rattle.rules.specs.Walk.{deepest}
 use Rattle.rules.specs.Meaning.{Cell, isReadGroup}
 use Rattle.rules.specs.Wire.{hasVendor}
 use Rattle.rules.specs.Draft.{nextDepth, isTree}
-use Rattle.rules.proofs.Octets.{padded-least}
+use Rattle.rules.proofs.Octets.{padded-least, padded-words, padded-even}
 use Rattle.rules.proofs.Tests.{and-true}
 use Rattle.rules.proofs.Walk.{by-cases}
 use Rattle.rules.proofs.demands.items.Items.{ownSize, sizeUnder, hasSizesUnder, Over}
@@ -233,14 +233,14 @@ module _ (dict : List Entry) where
 
   -- the octets of an AVP with its padding, as its header's
   own-words : (c : Cell) → (k : ℕ) × (ownSize dict c ≡ k * 4)
-  unfolding ownSize padded
+  unfolding ownSize
   own-words c =
       let h = header-words (hasVendor c) in
       by-cases (isGroupCell c)
       (λ g. (h .0, rw g (omega (arith, h .1))))
-      (λ g. (h .0 + (c .length + 3) / 4, rw g (omega (arith, h .1))))
+      (λ g. (h .0 + padded (c .length) / 4, rw g (omega (arith, h .1, padded-words (c .length)))))
 
-  pub under-words : (d : ℕ) (cs : List Cell) → (k : ℕ) × (sizeUnder d dict cs ≡ k * 4)
+  under-words : (d : ℕ) (cs : List Cell) → (k : ℕ) × (sizeUnder d dict cs ≡ k * 4)
   unfolding sizeUnder
   under-words d [] = (0, refl)
   under-words d (c ∷ cs) =
@@ -250,8 +250,7 @@ module _ (dict : List Entry) where
 
   -- a read group needs no padding
   pub even-of : (c : Cell) (cs : List Cell) → Sized c cs → isGroupCell c ≡ true → padded (c .length) ≡ c .length
-  unfolding padded
-  even-of c cs s g = let p = under-words (c .depth) cs in omega (arith, s .one g, p .1)
+  even-of c cs s g = let p = under-words (c .depth) cs in padded-even (c .length) (p .0) (s .one g ∙ p .1)
 
   pub size-words : (cs : List Cell) → (k : ℕ) × (sizeOf cs ≡ k * 4)
   unfolding sizeOf
