@@ -28,7 +28,7 @@ fn pad(out: &mut [u8; 16400], at: usize) -> usize {
     put(out, at, 255)
 }
 
-// Up to three octets of padding, to a multiple of four.
+// The padding of what ends here (01, AVP).
 pub(crate) fn put_padding(out: &mut [u8; 16400], at: usize) -> usize {
     let second = pad(out, at);
     let third = pad(out, second);

@@ -3,7 +3,7 @@
 // length with padding.
 ghost use mathlib.Core.Path.{_≡_};
 ghost use Prim.Native.Nat.{_≤_};
-ghost use Rattle.rules.specs.Octets.{numberAt, IsNumber, flag, padded};
+ghost use Rattle.rules.specs.Octets.{numberAt, IsNumber, flag, padded, IsPadded};
 
 fn wide(x: u8) -> u32
     ensures { λ r. ⌜ IsNumber 1 x r ⌝ }
@@ -77,9 +77,15 @@ pub fn has_flag(octet: u8, value: u8) -> bool
     octet / value % 2 == 1
 }
 
-// A length with the padding to a multiple of four.
+// 02 [4], the padding rule of RFC 6733: the least multiple of four that is no smaller than the length, here for every
+// length of 32 bits. That is as many words of four octets as the length fills, and one more if octets are left.
 pub fn padded_length(length: u32) -> usize
-    ensures { λ r. ⌜ (r ≡ padded length) × (r ≤ 4294967296) ⌝ }
+    ensures { λ r. ⌜ (r ≡ padded length) × (r ≤ 4294967296) × IsPadded length r ⌝ }
 {
-    (length as usize + 3) / 4 * 4
+    let size = length as usize;
+    let mut words = size / 4;
+    if 0 < size % 4 {
+        words += 1;
+    }
+    words * 4
 }

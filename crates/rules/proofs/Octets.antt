@@ -1,7 +1,7 @@
 -- Laws of octets and numbers: big-endian numbers over the width, in the form in which code reads them.
 use mathlib.Core.Path.{_≡_, refl, sym, ap, _∙_}
 use mathlib.Core.List.{List, [], _∷_, _++_}
-use Prim.Native.Nat.{ℕ, zero, suc, _+_, _-_, _*_, _/_, _^_, _≤_, _<_}
+use Prim.Native.Nat.{ℕ, zero, suc, _+_, _-_, _*_, _^_, _≤_, _<_}
 use native.Mathlib.Nat.{sub-zero, zero-sub, add-zero, mul-assoc, pow-suc, one-le-pow}
 use native.Mathlib.Omega.{arith}
 use native.Mathlib.Numerals.{add-one}
@@ -9,7 +9,7 @@ use borrow.Author.Tests.{le-leb, lt-leb}
 use lib.ListN.{length, take, drop, getD, length-append, length-drop}
 use lib.Seq.{take-suc, getD-drop, drop-drop, drop-nil, take-nil, take-take, length-take-le}
 use lib.Dec.{lit<}
-use Rattle.rules.specs.Octets.{number, numberAt, IsNumber, padded}
+use Rattle.rules.specs.Octets.{number, numberAt, IsNumber, padded, IsPadded}
 
 -- where the octets lie in s
 pub numberAt-in : (w : ℕ) (s : List ℕ) (at : ℕ) → at + w ≤ length s → numberAt w s at ≡ number (take w (drop at s))
@@ -61,24 +61,31 @@ no-number w s at h = record { is = sym (numberAt-out w s at h); below = one-le-p
 
 -- ---- a length with padding
 
-pub padded-least : (n : ℕ) → n ≤ padded n
+-- 02 [4]: it is the least multiple of four that is no smaller
+pub padded-rule : (n : ℕ) → IsPadded n (padded n)
 unfolding padded
-padded-least n = omega arith
+padded-rule n = record { multiple = omega arith; no-smaller = omega arith; least = λ k four room. omega arith }
 
+-- and no other number is
+pub padded-unique : (n m k : ℕ) → IsPadded n m → IsPadded n k → m ≡ k
+padded-unique n m k a b =
+    omega (arith, a .least k (b .multiple) (b .no-smaller), b .least m (a .multiple) (a .no-smaller))
+
+-- padding takes nothing away
+pub padded-least : (n : ℕ) → n ≤ padded n
+padded-least n = padded-rule n .no-smaller
+
+-- and adds three octets at most
 pub padded-near : (n : ℕ) → padded n ≤ n + 3
 unfolding padded
 padded-near n = omega arith
 
-pub padded-words : (n : ℕ) → padded n ≡ padded n / 4 * 4
+-- a multiple of four has no padding
+pub padded-multiple : (n k : ℕ) → n ≡ k * 4 → padded n ≡ n
 unfolding padded
-padded-words n = omega arith
+padded-multiple n k e = omega arith
 
--- a multiple of four needs no padding
-pub padded-even : (n k : ℕ) → n ≡ k * 4 → padded n ≡ n
-unfolding padded
-padded-even n k e = omega arith
-
--- and adds none in front of a length
+-- a multiple of four in front of a length leaves its padding as it is
 pub padded-behind : (k n : ℕ) → padded (k * 4 + n) ≡ k * 4 + padded n
 unfolding padded
 padded-behind k n = omega arith

@@ -17,7 +17,7 @@ use Rattle.rules.specs.Command.{walkOf}
 abbrev pub avpLength : Avp → ℕ
 avpLength a = endOf a - placeOf a
 
--- where its length is filled to a multiple of four
+-- where it ends with its padding
 abbrev pub filledEnd : Avp → ℕ
 filledEnd a = placeOf a + padded (avpLength a)
 

@@ -1,7 +1,7 @@
 -- Octets and numbers: what a list of octets stands for, and what stands at a place of it. Definitions only;
 -- their laws are in proofs/Octets.
 use mathlib.Core.Path.{_≡_}
-use Prim.Native.Nat.{ℕ, zero, suc, _+_, _*_, _/_, _%_, _^_, _<_}
+use Prim.Native.Nat.{ℕ, zero, suc, _+_, _*_, _/_, _%_, _^_, _≤_, _<_}
 use mathlib.Core.List.{List, [], _∷_}
 use mathlib.Core.Bool.{Bool, cond}
 use lib.ListN.{length, take, drop, getD}
@@ -34,6 +34,13 @@ pub record IsNumber (w n r : ℕ) : Type 0 where
 abbrev pub flag : ℕ → ℕ → Bool
 flag value octet = eqb (octet / value % 2) 1
 
--- 01, AVP: a length with the padding to a multiple of four
+-- 02 [4], the padding rule of RFC 6733: with its padding a length n is m, the least multiple of four that is no smaller
+pub record IsPadded (n m : ℕ) : Type 0 where
+  pub multiple : m % 4 ≡ 0
+  pub no-smaller : n ≤ m
+  pub least : (k : ℕ) → k % 4 ≡ 0 → n ≤ k → m ≤ k
+
+-- 01, AVP: a length with its padding. It follows the rule above, and no other number does (proofs/Octets: padded-rule,
+-- padded-unique).
 unfoldable pub padded : ℕ → ℕ
 padded n = (n + 3) / 4 * 4

@@ -15,7 +15,7 @@ use Rattle.rules.specs.Walk.{deepest}
 use Rattle.rules.specs.Meaning.{Cell, isReadGroup}
 use Rattle.rules.specs.Wire.{hasVendor}
 use Rattle.rules.specs.Draft.{nextDepth, isTree}
-use Rattle.rules.proofs.Octets.{padded-least, padded-words, padded-even}
+use Rattle.rules.proofs.Octets.{padded-rule, padded-least, padded-multiple}
 use Rattle.rules.proofs.Tests.{and-true}
 use Rattle.rules.proofs.Walk.{by-cases}
 use Rattle.rules.proofs.demands.items.Items.{ownSize, sizeUnder, hasSizesUnder, Over}
@@ -238,7 +238,7 @@ module _ (dict : List Entry) where
       let h = header-words (hasVendor c) in
       by-cases (isGroupCell c)
       (λ g. (h .0, rw g (omega (arith, h .1))))
-      (λ g. (h .0 + padded (c .length) / 4, rw g (omega (arith, h .1, padded-words (c .length)))))
+      (λ g. (h .0 + padded (c .length) / 4, rw g (omega (arith, h .1, padded-rule (c .length) .multiple))))
 
   under-words : (d : ℕ) (cs : List Cell) → (k : ℕ) × (sizeUnder d dict cs ≡ k * 4)
   unfolding sizeUnder
@@ -250,7 +250,7 @@ module _ (dict : List Entry) where
 
   -- a read group needs no padding
   pub even-of : (c : Cell) (cs : List Cell) → Sized c cs → isGroupCell c ≡ true → padded (c .length) ≡ c .length
-  even-of c cs s g = let p = under-words (c .depth) cs in padded-even (c .length) (p .0) (s .one g ∙ p .1)
+  even-of c cs s g = let p = under-words (c .depth) cs in padded-multiple (c .length) (p .0) (s .one g ∙ p .1)
 
   pub size-words : (cs : List Cell) → (k : ℕ) × (sizeOf cs ≡ k * 4)
   unfolding sizeOf

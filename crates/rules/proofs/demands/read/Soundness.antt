@@ -16,7 +16,7 @@ use Rattle.rules.specs.Dictionary.{Entry, defined, isGroup}
 use Rattle.rules.specs.Walk.{standing, framing, contents, Walked, whole, stopped, after, andThen, walkAvp, walkList}
 use Rattle.rules.specs.Meaning.{isReadGroup}
 use Rattle.rules.specs.Wire.{avpHeader}
-use Rattle.rules.proofs.Octets.{padded-even}
+use Rattle.rules.proofs.Octets.{padded-multiple}
 use Rattle.rules.proofs.Fields.{avpAt-start, avpAt-end, avpAt-depth}
 use Rattle.rules.proofs.Walk.{by-cases, checked-frame, checked-content, checked-group, checked-plain, avp-many, avp-fault, avp-plain, avp-group, list-end, list-more}
 use Rattle.rules.proofs.Passed.{framed, group-is}
@@ -85,7 +85,7 @@ module _ {dict : List Entry} {s : List ℕ} {at end depth : ℕ} (p : Passing di
         let size : x .cell .length ≡ length (octetsOf ins) = omega (arith, within .long) in
         let even : padded (x .cell .length) ≡ x .cell .length =
         let w = words dict (depth + 1) ins (within .listed) in
-        padded-even (x .cell .length) (w .0) (omega (arith, w .1)) in
+        padded-multiple (x .cell .length) (w .0) (omega (arith, w .1)) in
         let st = group-step p group even in
         let next = group-next p group even in
         let place : nextAt s at ≡ at + step x + length (octetsOf ins) = omega arith in
