@@ -64,7 +64,20 @@ impl AvpHeader {
     }
 }
 
-/// The next multiple of four.
-fn padded(length: usize) -> usize {
-    (length + 3) & !3
+/// A length with its padding: the least multiple of four that is no smaller.
+pub fn padded(length: usize) -> usize {
+    length.div_ceil(4) * 4
+}
+
+#[cfg(test)]
+mod tests {
+    use super::padded;
+
+    #[test]
+    fn padded_is_the_least_multiple_of_four_that_is_no_smaller() {
+        // Every value of the length field.
+        for length in 0..1 << 24 {
+            assert_eq!(Some(padded(length)), (length..).find(|n| n % 4 == 0), "{length}");
+        }
+    }
 }

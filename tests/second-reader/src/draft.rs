@@ -1,5 +1,6 @@
 //! A draft for the writer: the numbers of a record, which may be any, over lent octets.
 
+use crate::avp::padded;
 use crate::dictionary::{Form, Kind};
 use crate::record::{Avp, Record, MOST_AVPS};
 
@@ -63,7 +64,7 @@ impl Place {
 
     /// Octets of the whole AVP with its padding.
     pub fn padded(&self) -> u64 {
-        (self.header() + u64::from(self.length)).next_multiple_of(4)
+        padded((self.header() + u64::from(self.length)) as usize) as u64
     }
 
     /// The seven numbers in the record's order.

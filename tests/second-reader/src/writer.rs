@@ -1,6 +1,7 @@
 //! An independent writer: a draft into an output, from document 01's "The record and the writer"
 //! and the readings alone.
 
+use crate::avp::padded;
 use crate::draft::{avps, Draft, Place};
 use crate::header::{APPLICATION, COMMAND_CODE, HEADER, LONGEST_COMMAND};
 use crate::record::MOST_AVPS;
@@ -133,5 +134,5 @@ fn put_avp(place: &Place, members: &[Place], octets: &[u8], out: &mut Vec<u8>) {
     }
     let length = (out.len() - at) as u32;
     out[at + 4..at + 8].copy_from_slice(&(flags << 24 | length).to_be_bytes());
-    out.resize(out.len().next_multiple_of(4), 0);
+    out.resize(at + padded(out.len() - at), 0);
 }

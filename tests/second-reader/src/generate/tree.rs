@@ -1,5 +1,6 @@
 //! A command as a tree, which may be wrong in many ways, and its octets.
 
+use crate::avp::padded;
 use crate::header::{APPLICATION, COMMAND_CODE, HEADER};
 
 /// What an AVP holds.
@@ -68,12 +69,11 @@ impl Node {
             Body::Members(members) => members.iter().for_each(|member| member.encode(out)),
         }
         out.extend_from_slice(&self.tail);
-        let honest = (out.len() - at) as u32;
-        let length = self.length.unwrap_or(honest);
+        let honest = out.len() - at;
+        let length = self.length.unwrap_or(honest as u32);
         out[at + 5..at + 8].copy_from_slice(&length.to_be_bytes()[1..]);
         if !self.unpadded {
-            let padding = (4 - honest as usize % 4) % 4;
-            out.extend_from_slice(&self.padding[..padding]);
+            out.extend_from_slice(&self.padding[..padded(honest) - honest]);
         }
     }
 
@@ -108,9 +108,7 @@ impl Tree {
             node.encode(&mut out);
         }
         out.extend_from_slice(&self.tail);
-        while !out.len().is_multiple_of(4) {
-            out.push(0);
-        }
+        out.resize(padded(out.len()), 0);
         let length = (out.len() as u32).to_be_bytes();
         out[0] = self.version;
         out[1..4].copy_from_slice(&length[1..]);

@@ -1,6 +1,7 @@
 //! Depth, number and length at their limits, and what does not fill a list.
 
 use super::pick::{one, some_list};
+use crate::avp::padded;
 use crate::dictionary::Kind;
 use crate::generate::prng::Prng;
 use crate::generate::sound;
@@ -117,6 +118,6 @@ pub fn too_long(tree: &mut Tree, prng: &mut Prng) {
 impl Node {
     /// Whether it has padding.
     fn is_ragged(&self) -> bool {
-        matches!(&self.body, Body::Data(data) if data.len() % 4 != 0)
+        matches!(&self.body, Body::Data(data) if padded(data.len()) != data.len())
     }
 }
