@@ -14,7 +14,7 @@ use Rattle.rules.specs.Verdict.{refused, orElse}
 use Rattle.rules.specs.Avp.{endOf}
 use Rattle.rules.specs.RowChecks.{memberFault}
 use Rattle.rules.specs.Search.{avpIn, firstFrom, search as searched, member}
-use Rattle.rules.specs.Exchange.{present, require, volume, byRequestType, requestOutcome}
+use Rattle.rules.specs.Exchange.{present, require, direction, volume, byRequestType, requestOutcome}
 use Rattle.rules.specs.Exchange.{resultBy, resultOutcome, policiesOutcome, windowBy, windowOutcome, eachPolicy, eachWindow}
 use Rattle.log.specs.Log.{avpOf, avpsIn}
 use Rattle.log.proofs.Log.{avps-cons, avps-end}
@@ -31,18 +31,23 @@ module _ (end vendor code : ℕ) (f : Found) where
 
 -- ---- requests
 
+module _ (xs : List Avp) where
+  pub direction-input : (i : ℕ) → searched xs 0 412 ≡ At i → At i ≡ direction xs
+  unfolding direction
+  direction-input i e = rw e
+
+  pub direction-output : searched xs 0 412 ≡ Nothing → searched xs 0 414 ≡ direction xs
+  unfolding direction
+  direction-output e = rw e
+
 module _ (xs : List Avp) (end : ℕ) where
-  pub volume-input : (i : ℕ) → searched xs 0 412 ≡ At i → Pass ≡ volume xs end
+  pub volume-total : (i : ℕ) → searched xs 0 421 ≡ At i → Pass ≡ volume xs end
   unfolding volume
-  volume-input i e = rw e
+  volume-total i e = rw e
 
-  pub volume-total : (i : ℕ) → searched xs 0 412 ≡ Nothing → searched xs 0 421 ≡ At i → Pass ≡ volume xs end
+  pub volume-directed : searched xs 0 421 ≡ Nothing → present end 0 414 (direction xs) ≡ volume xs end
   unfolding volume
-  volume-total i e d = rw (e, d)
-
-  pub volume-output : searched xs 0 412 ≡ Nothing → searched xs 0 421 ≡ Nothing → require xs end 0 414 ≡ volume xs end
-  unfolding volume
-  volume-output e d = rw (e, d)
+  volume-directed e = rw e
 
   module _ (s : List ℕ) where
     pub request-typed : (i : ℕ) → searched xs 10415 4203 ≡ At i

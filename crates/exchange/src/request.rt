@@ -1,10 +1,12 @@
 // 01, Exchange rules of a request, by its Transfer-Request-Type.
 ghost use mathlib.Core.Path.{_≡_};
 ghost use Prim.Native.Nat.{_≤_};
-ghost use Rattle.rules.specs.Exchange.{volume as volumeOf, firstRequest, laterRequest, byRequestType, requestOutcome};
+ghost use Rattle.rules.specs.Exchange.{direction as directionOf, volume as volumeOf};
+ghost use Rattle.rules.specs.Exchange.{firstRequest, laterRequest, byRequestType, requestOutcome};
 ghost use Rattle.rules.specs.Walk.{mostAvps};
 ghost use Rattle.log.specs.Log.{avpsIn};
 use crate::search::number_of;
+use crate::search::present;
 use crate::search::require;
 use crate::search::search;
 use avp::refusal;
@@ -22,26 +24,28 @@ use rules::kinds::TransferPolicyId;
 use rules::kinds::TransferRequestType;
 use rules::limits;
 
+// The volume of a direction, uplink or downlink.
+fn direction(log: &[u32; limits::LOG_NUMBERS], count: usize) -> Found
+    requires { ⌜ count ≤ mostAvps ⌝ }
+    ensures { λ r. ⌜ r ≡ directionOf (avpsIn (now (log .entry)) count) ⌝ }
+{
+    let input = search(log, count, CcInputOctets::VENDOR, CcInputOctets::CODE);
+    let Found::At(_) = input else {
+        return search(log, count, CcOutputOctets::VENDOR, CcOutputOctets::CODE);
+    };
+    input
+}
+
 // One of three is enough; where none is there, CC-Output-Octets is missing.
 fn volume(log: &[u32; limits::LOG_NUMBERS], count: usize, end: u32) -> Outcome
     requires { ⌜ count ≤ mostAvps ⌝ }
     ensures { λ r. ⌜ r ≡ volumeOf (avpsIn (now (log .entry)) count) end ⌝ }
 {
-    let input = search(log, count, CcInputOctets::VENDOR, CcInputOctets::CODE);
-    if let Found::At(_) = input {
-        return Outcome::Pass;
-    }
-    let total = search(log, count, CcTotalOctets::VENDOR, CcTotalOctets::CODE);
-    if let Found::At(_) = total {
-        return Outcome::Pass;
-    }
-    require(
-        log,
-        count,
-        end,
-        CcOutputOctets::VENDOR,
-        CcOutputOctets::CODE,
-    )
+    let direction = direction(log, count);
+    let Found::At(_) = search(log, count, CcTotalOctets::VENDOR, CcTotalOctets::CODE) else {
+        return present(direction, end, CcOutputOctets::VENDOR, CcOutputOctets::CODE);
+    };
+    Outcome::Pass
 }
 
 // Transfer-Request-Type 0: the first request of a transfer.

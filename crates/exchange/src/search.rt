@@ -6,7 +6,7 @@ ghost use Rattle.rules.specs.Octets.{numberAt, IsNumber};
 ghost use Rattle.rules.specs.Avp.{endOf};
 ghost use Rattle.rules.specs.Search.{avpIn, firstFrom};
 ghost use Rattle.rules.specs.Search.{search as searched, member as memberOf};
-ghost use Rattle.rules.specs.Exchange.{require as requireIn};
+ghost use Rattle.rules.specs.Exchange.{present as presentBy, require as requireIn};
 ghost use Rattle.rules.specs.Walk.{mostAvps};
 ghost use Rattle.log.specs.Log.{avpOf, avpsIn};
 ghost use Rattle.rules.specs.Search.{isAt};
@@ -92,6 +92,16 @@ pub(crate) fn member(
     first(log, i + 1, count, depth, depth, vendor, code)
 }
 
+// What a search says of an AVP that a list must have; `end` is the list's end.
+pub(crate) fn present(found: Found, end: u32, vendor: u32, code: u32) -> Outcome
+    ensures { λ r. ⌜ r ≡ presentBy end vendor code found ⌝ }
+{
+    let Found::At(_) = found else {
+        return refusal(5005, end, vendor, code);
+    };
+    Outcome::Pass
+}
+
 // An AVP that the command's own list must have; `end` is the list's end.
 pub(crate) fn require(
     log: &[u32; limits::LOG_NUMBERS],
@@ -103,10 +113,7 @@ pub(crate) fn require(
     requires { ⌜ count ≤ mostAvps ⌝ }
     ensures { λ r. ⌜ r ≡ requireIn (avpsIn (now (log .entry)) count) end vendor code ⌝ }
 {
-    let Found::At(_) = search(log, count, vendor, code) else {
-        return refusal(5005, end, vendor, code);
-    };
-    Outcome::Pass
+    present(search(log, count, vendor, code), end, vendor, code)
 }
 
 // The end of the data of the AVP at a position.

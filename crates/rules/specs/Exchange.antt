@@ -27,15 +27,18 @@ present end vendor code Nothing = refused 5005 end vendor code
 abbrev pub require : List Avp → ℕ → ℕ → ℕ → Outcome
 require xs end vendor code = present end vendor code (search xs vendor code)
 
--- whether a search found an AVP
-abbrev pub isFound : Found → Bool
-isFound (At i) = Bool.true
-isFound Nothing = Bool.false
+-- of two searches what the first found, else what the second did
+abbrev pub firstFound : Found → Found → Found
+firstFound (At i) g = At i
+firstFound Nothing g = g
+
+-- the volume of a direction: 412, uplink, or 414, downlink
+unfoldable pub direction : List Avp → Found
+direction xs = firstFound (search xs 0 412) (search xs 0 414)
 
 -- one of 414, 412, 421, reported as 414
 unfoldable pub volume : List Avp → ℕ → Outcome
-volume xs end =
-    cond (isFound (search xs 0 412)) Pass (cond (isFound (search xs 0 421)) Pass (require xs end 0 414))
+volume xs end = present end 0 414 (firstFound (search xs 0 421) (direction xs))
 
 -- BTR with 4203 = 0: 532; a volume; 4209; 4204
 unfoldable pub firstRequest : List Avp → ℕ → Outcome

@@ -24,7 +24,7 @@ use Rattle.rules.specs.Dictionary.{Entry, defined, membersOf}
 use Rattle.rules.specs.Rows.{Row, rowsOf, admitsOthers}
 use Rattle.rules.specs.RowChecks.{admission, noneMet, counted, byMark, byAdmission, memberOutcome, missingFrom, membersOutcome, membersAt, groupOutcome, groupsOutcome, listOutcome, rowsOutcome}
 use Rattle.rules.specs.Search.{avpIn, isAt, firstFrom, search, member}
-use Rattle.rules.specs.Exchange.{present, volume, firstRequest, laterRequest, requestBy, requestOutcome, resultBy, resultOutcome, ifFound, policiesBy, policiesOutcome, policyOutcome, policyAt, eachPolicy, answerOutcome, windowBy, windowOutcome, windowAt, eachWindow, byCommand, exchangeOutcome}
+use Rattle.rules.specs.Exchange.{present, firstFound, direction, volume, firstRequest, laterRequest, requestBy, requestOutcome, resultBy, resultOutcome, ifFound, policiesBy, policiesOutcome, policyOutcome, policyAt, eachPolicy, answerOutcome, windowBy, windowOutcome, windowAt, eachWindow, byCommand, exchangeOutcome}
 use Rattle.rules.proofs.demands.numbering.Refusals.{meets, AvpRefusals, pass-meets, either, both, in-turn}
 
 -- the command's list, then each group
@@ -97,8 +97,8 @@ module _ (t : Verdict → Bool) (r : AvpRefusals t) where
   present-meets end vendor code Nothing = r .missing _ _ _
 
   volume-meets : (xs : List Avp) (end : ℕ) → meets t (volume xs end) ≡ true
-  unfolding volume meets
-  volume-meets xs end = simp (either t, both, present-meets)
+  unfolding volume
+  volume-meets xs end = present-meets end 0 414 (firstFound (search xs 0 421) (direction xs))
 
   first-meets : (xs : List Avp) (end : ℕ) → meets t (firstRequest xs end) ≡ true
   unfolding firstRequest
