@@ -41,6 +41,7 @@ fn row_cases() {
 
 fn exchange_cases() {
     exchange::first_requests();
+    exchange::totals();
     exchange::later_requests();
     exchange::results();
     exchange::policy_counts();

@@ -1,5 +1,5 @@
 -- Laws of the exchange rules: each rule by what its searches found, and a rule at one position after another.
-use mathlib.Core.Path.{_≡_, refl, sym, _∙_}
+use mathlib.Core.Path.{_≡_, refl, sym, ap, _∙_}
 use mathlib.Core.List.{List, [], _∷_}
 use Prim.Native.Nat.{ℕ, _+_, _≤_, _<_}
 use lib.ListN.{drop}
@@ -14,8 +14,9 @@ use Rattle.rules.specs.Verdict.{refused, orElse}
 use Rattle.rules.specs.Avp.{endOf}
 use Rattle.rules.specs.RowChecks.{memberFault}
 use Rattle.rules.specs.Search.{avpIn, firstFrom, search as searched, member}
-use Rattle.rules.specs.Exchange.{present, require, direction, volume, byRequestType, requestOutcome}
+use Rattle.rules.specs.Exchange.{present, require, direction, volume, totalAlone, firstRequest, byRequestType, requestOutcome}
 use Rattle.rules.specs.Exchange.{resultBy, resultOutcome, policiesOutcome, windowBy, windowOutcome, eachPolicy, eachWindow}
+use Rattle.rules.proofs.Outcomes.{or-pass, or-assoc}
 use Rattle.log.specs.Log.{avpOf, avpsIn}
 use Rattle.log.proofs.Log.{avps-cons, avps-end}
 use Rattle.rules.specs.Exchange.{policyAt, timesBy, windowAt}
@@ -41,13 +42,27 @@ module _ (xs : List Avp) where
   direction-output e = rw e
 
 module _ (xs : List Avp) (end : ℕ) where
-  pub volume-total : (i : ℕ) → searched xs 0 421 ≡ At i → Pass ≡ volume xs end
-  unfolding volume
-  volume-total i e = rw e
+  -- a volume, then the total alone
+  abbrev pub volumes : Outcome
+  volumes = orElse (volume xs end) (totalAlone xs)
 
-  pub volume-directed : searched xs 0 421 ≡ Nothing → present end 0 414 (direction xs) ≡ volume xs end
-  unfolding volume
-  volume-directed e = rw e
+  pub no-total : searched xs 0 421 ≡ Nothing → present end 0 414 (direction xs) ≡ volumes
+  unfolding volume totalAlone
+  no-total e = rw e (sym (or-pass (present end 0 414 (direction xs))))
+
+  module _ (i : ℕ) (e : searched xs 0 421 ≡ At i) where
+    pub total-only : direction xs ≡ Nothing → Pass ≡ volumes
+    unfolding volume totalAlone
+    total-only d = rw (e, d)
+
+    pub total-beside : (j : ℕ) → direction xs ≡ At j → memberFault 5008 (avpIn xs i) ≡ volumes
+    unfolding volume totalAlone
+    total-beside j d = rw (e, d)
+
+  pub first-order : orElse (require xs end 10415 532) (orElse volumes (orElse (require xs end 10415 4209) (require xs end 10415 4204)))
+      ≡ firstRequest xs end
+  unfolding firstRequest
+  first-order = ap (orElse (require xs end 10415 532)) (or-assoc (volume xs end) (totalAlone xs) _)
 
   module _ (s : List ℕ) where
     pub request-typed : (i : ℕ) → searched xs 10415 4203 ≡ At i

@@ -1,7 +1,8 @@
 // 01, Exchange rules of a request, by its Transfer-Request-Type.
 ghost use mathlib.Core.Path.{_≡_};
 ghost use Prim.Native.Nat.{_≤_};
-ghost use Rattle.rules.specs.Exchange.{direction as directionOf, volume as volumeOf};
+ghost use Rattle.rules.specs.Verdict.{orElse};
+ghost use Rattle.rules.specs.Exchange.{direction as directionOf, volume, totalAlone};
 ghost use Rattle.rules.specs.Exchange.{firstRequest, laterRequest, byRequestType, requestOutcome};
 ghost use Rattle.rules.specs.Walk.{mostAvps};
 ghost use Rattle.log.specs.Log.{avpsIn};
@@ -9,6 +10,7 @@ use crate::search::number_of;
 use crate::search::present;
 use crate::search::require;
 use crate::search::search;
+use avp::member_fault;
 use avp::refusal;
 use rules::Found;
 use rules::Outcome;
@@ -36,16 +38,20 @@ fn direction(log: &[u32; limits::LOG_NUMBERS], count: usize) -> Found
     input
 }
 
-// One of three is enough; where none is there, CC-Output-Octets is missing.
-fn volume(log: &[u32; limits::LOG_NUMBERS], count: usize, end: u32) -> Outcome
+// One of three is enough; where none is there, CC-Output-Octets is missing. Request [2]: the total is not allowed beside
+// a direction.
+fn volumes(log: &[u32; limits::LOG_NUMBERS], count: usize, end: u32) -> Outcome
     requires { ⌜ count ≤ mostAvps ⌝ }
-    ensures { λ r. ⌜ r ≡ volumeOf (avpsIn (now (log .entry)) count) end ⌝ }
+    ensures { λ r. ⌜ r ≡ orElse (volume (avpsIn (now (log .entry)) count) end) (totalAlone (avpsIn (now (log .entry)) count)) ⌝ }
 {
     let direction = direction(log, count);
-    let Found::At(_) = search(log, count, CcTotalOctets::VENDOR, CcTotalOctets::CODE) else {
+    let Found::At(i) = search(log, count, CcTotalOctets::VENDOR, CcTotalOctets::CODE) else {
         return present(direction, end, CcOutputOctets::VENDOR, CcOutputOctets::CODE);
     };
-    Outcome::Pass
+    let Found::At(_) = direction else {
+        return Outcome::Pass;
+    };
+    member_fault(5008, log::get(log, i))
 }
 
 // Transfer-Request-Type 0: the first request of a transfer.
@@ -63,7 +69,7 @@ fn first_request(log: &[u32; limits::LOG_NUMBERS], count: usize, end: u32) -> Ou
     let Outcome::Pass = provider else {
         return provider;
     };
-    let octets = volume(log, count, end);
+    let octets = volumes(log, count, end);
     let Outcome::Pass = octets else {
         return octets;
     };

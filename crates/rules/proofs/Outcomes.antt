@@ -17,6 +17,10 @@ pub or-pass : (o : Outcome) → orElse o Pass ≡ o
 or-pass Pass = refl
 or-pass (Refused v) = refl
 
+pub or-assoc : (o p q : Outcome) → orElse (orElse o p) q ≡ orElse o (orElse p q)
+or-assoc Pass p q = refl
+or-assoc (Refused v) p q = refl
+
 -- what passes as a whole passes in each part
 pub both-pass : (o p : Outcome) → orElse o p ≡ Pass → (o ≡ Pass) × (p ≡ Pass)
 both-pass Pass p e = (refl, e)

@@ -17,7 +17,7 @@ use Rattle.rules.specs.Dictionary.{dictionary, find}
 use Rattle.rules.specs.Walk.{framing, wrongFlags, unsupported, wrongWidth, wrongValue, tooDeep, contents, checked, walkAvp, walkList}
 use Rattle.rules.specs.RowChecks.{admissionFrom, memberOutcome, missingFrom, membersOutcome, membersAt, groupsOutcome, rowsOutcome}
 use Rattle.rules.specs.Search.{firstFrom}
-use Rattle.rules.specs.Exchange.{direction, volume, firstRequest, laterRequest, requestOutcome, resultOutcome, policiesOutcome, policyOutcome, eachPolicy, answerOutcome, windowOutcome, eachWindow, exchangeOutcome}
+use Rattle.rules.specs.Exchange.{direction, volume, totalAlone, firstRequest, laterRequest, requestOutcome, resultOutcome, policiesOutcome, policyOutcome, eachPolicy, answerOutcome, windowOutcome, eachWindow, exchangeOutcome}
 use Rattle.rules.specs.Command.{walkOf, listsOutcome, commandOutcome, commandVerdict}
 use Rattle.rules.specs.Lines.{digits}
 use Rattle.rules.specs.Book.{isCut, linesFrom, isBook, listing}
@@ -106,16 +106,28 @@ cases =
     ∷ case (requestHeader 144 ++ sFront) 5005 144 vendor3GPP 4208
     ∷ []
 
--- a first request, 4203 = 0: 532, 414, 4209, and a window from 10 to this time
-unfoldable pub firstRequestTo : ℕ → List ℕ
-firstRequestTo end =
-    requestHeader 208
+-- 532 and 4209 of a first request, and a volume
+unfoldable pub provider : List ℕ
+provider = avpOf3GPP 532 0x80 13 (letter 0x61)
+
+unfoldable pub numberOfUes : List ℕ
+numberOfUes = avpOf3GPP 4209 0xC0 16 (octets 4 3)
+
+unfoldable pub volumeOf : ℕ → List ℕ
+volumeOf code = avp code 0x40 16 (octets 8 1000)
+
+-- a first request, 4203 = 0, of this length: these AVPs, which stand at 116, and a window from 10 to this time
+unfoldable pub firstRequestOf : ℕ → List ℕ → ℕ → List ℕ
+firstRequestOf length avps end =
+    requestHeader length
     ++ sBegins vendorId 20
     ++ avpOf3GPP 4203 0xC0 16 (octets 4 0)
-    ++ avpOf3GPP 532 0x80 13 (letter 0x61)
-    ++ avp 414 0x40 16 (octets 8 1000)
-    ++ avpOf3GPP 4209 0xC0 16 (octets 4 3)
+    ++ avps
     ++ avpOf3GPP 4204 0xC0 44 (avpOf3GPP 4206 0xC0 16 (octets 4 10) ++ avpOf3GPP 4205 0xC0 16 (octets 4 end))
+
+-- with one volume
+abbrev pub firstRequestTo : ℕ → List ℕ
+firstRequestTo end = firstRequestOf 208 (provider ++ volumeOf 414 ++ numberOfUes) end
 
 -- the AVPs of an answer before its result
 unfoldable pub answerBegins : List ℕ
@@ -142,6 +154,19 @@ further =
     ∷ case (requestHeader 172 ++ sBegins (vendorId ++ vendorId) 32 ++ sGoesOn 1 ++ sEnds) 5009 52 0 266
     ∷ case (requestHeader 44 ++ avp 264 0x40 9 (letter 0x68) ++ avp 263 0x40 9 (letter 0x73)) 5008 32 0 263
     ∷ case (requestHeader 172 ++ sFront ++ sEnds ++ avp 264 0x40 9 (letter 0x68)) 5009 160 0 264
+    ∷ []
+
+-- request [2]: the total behind one direction and before the other; 532 missing beside it, which comes first, and 4209,
+-- which comes later; the direction in a group; 4203 = 1
+unfoldable pub totals : List Case
+totals =
+    case (firstRequestOf 224 (provider ++ volumeOf 414 ++ volumeOf 421 ++ numberOfUes) 11) 5008 148 0 421
+    ∷ case (firstRequestOf 224 (provider ++ volumeOf 421 ++ volumeOf 412 ++ numberOfUes) 11) 5008 132 0 421
+    ∷ case (firstRequestOf 208 (volumeOf 414 ++ volumeOf 421 ++ numberOfUes) 11) 5005 208 vendor3GPP 532
+    ∷ case (firstRequestOf 208 (provider ++ volumeOf 414 ++ volumeOf 421) 11) 5008 148 0 421
+    ∷ case (firstRequestOf 256 (provider ++ volumeOf 421 ++ numberOfUes
+    ++ avp 284 0x40 48 (avp 280 0x40 9 (letter 0x68) ++ avp 33 0x40 9 (letter 0x73) ++ volumeOf 414)) 11) 0 0 0 0
+    ∷ case (requestHeader 192 ++ sFront ++ sEnds ++ volumeOf 414 ++ volumeOf 421) 0 0 0 0
     ∷ []
 
 -- the answers that cases have, and those that the definitions give
@@ -200,10 +225,10 @@ unfoldable pub listings : List BookCase → List (List ℕ)
 listings bs = map (λ b. listing (b .octets)) bs
 
 -- all of it, computed
-computed : (verdicts cases ≡ answers cases) × (verdicts further ≡ answers further) × (listing book ≡ bookListing)
-    × (listings furtherBooks ≡ expected furtherBooks)
-unfolding headOfBook bookCase furtherBooks expected listings verdicts answers cases case header h avp avpOf3GPP sBegins vendorId sGoesOn sEnds sFront s further firstRequestTo answerBegins book bookListing octets numberAt padded lengthOutcome applicationOutcome flagsOutcome headerOutcome avpAt rowsOf admitsOthers dictionary find framing wrongFlags unsupported wrongWidth wrongValue tooDeep contents checked walkAvp walkList admissionFrom memberOutcome missingFrom membersOutcome membersAt groupsOutcome rowsOutcome firstFrom direction volume firstRequest laterRequest requestOutcome resultOutcome policiesOutcome policyOutcome eachPolicy answerOutcome windowOutcome eachWindow exchangeOutcome walkOf listsOutcome commandOutcome commandVerdict digits isCut linesFrom isBook listing
-computed = (refl, refl, refl, refl)
+computed : (verdicts cases ≡ answers cases) × (verdicts further ≡ answers further) × (verdicts totals ≡ answers totals)
+    × (listing book ≡ bookListing) × (listings furtherBooks ≡ expected furtherBooks)
+unfolding headOfBook bookCase furtherBooks expected listings verdicts answers cases case header h avp avpOf3GPP sBegins vendorId sGoesOn sEnds sFront s further totals provider numberOfUes volumeOf firstRequestOf answerBegins book bookListing octets numberAt padded lengthOutcome applicationOutcome flagsOutcome headerOutcome avpAt rowsOf admitsOthers dictionary find framing wrongFlags unsupported wrongWidth wrongValue tooDeep contents checked walkAvp walkList admissionFrom memberOutcome missingFrom membersOutcome membersAt groupsOutcome rowsOutcome firstFrom direction volume totalAlone firstRequest laterRequest requestOutcome resultOutcome policiesOutcome policyOutcome eachPolicy answerOutcome windowOutcome eachWindow exchangeOutcome walkOf listsOutcome commandOutcome commandVerdict digits isCut linesFrom isBook listing
+computed = (refl, refl, refl, refl, refl)
 
 -- each marked case has its answer
 pub edges : verdicts cases ≡ answers cases
@@ -213,10 +238,14 @@ edges = computed .0
 pub further-edges : verdicts further ≡ answers further
 further-edges = computed .1
 
+-- and each case of request [2]
+pub total-edges : verdicts totals ≡ answers totals
+total-edges = computed .2
+
 -- and the book its listing
 pub worked-book : listing book ≡ bookListing
-worked-book = computed .2
+worked-book = computed .3
 
 -- and each further book
 pub further-books : listings furtherBooks ≡ expected furtherBooks
-further-books = computed .3
+further-books = computed .4

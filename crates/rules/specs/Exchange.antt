@@ -40,13 +40,24 @@ direction xs = firstFound (search xs 0 412) (search xs 0 414)
 unfoldable pub volume : List Avp → ℕ → Outcome
 volume xs end = present end 0 414 (firstFound (search xs 0 421) (direction xs))
 
--- BTR with 4203 = 0: 532; a volume; 4209; 4204
+-- an AVP that is not allowed beside another: where both were found, 5008 at the first
+abbrev pub notBeside : List Avp → Found → Found → Outcome
+notBeside xs (At i) (At j) = memberFault 5008 (avpIn xs i)
+notBeside xs (At i) Nothing = Pass
+notBeside xs Nothing g = Pass
+
+-- request [2]: the total, 421, not beside a direction
+unfoldable pub totalAlone : List Avp → Outcome
+totalAlone xs = notBeside xs (search xs 0 421) (direction xs)
+
+-- BTR with 4203 = 0: 532; a volume; the total alone; 4209; 4204
 unfoldable pub firstRequest : List Avp → ℕ → Outcome
 firstRequest xs end =
     orElse (require xs end vendor3GPP 532)
     (orElse (volume xs end)
+    (orElse (totalAlone xs)
     (orElse (require xs end vendor3GPP 4209)
-    (require xs end vendor3GPP 4204)))
+    (require xs end vendor3GPP 4204))))
 
 -- BTR with 4203 = 1: 4202, 4208, 293
 unfoldable pub laterRequest : List Avp → ℕ → Outcome

@@ -4,7 +4,7 @@ use mathlib.Core.Bool.{Bool, true, false, cond}
 use mathlib.Core.List.{List, [], _∷_}
 use Prim.Native.Nat.{ℕ, _+_}
 use lib.Dec.{ltb}
-use lib.ListN.{getD, drop}
+use lib.ListN.{getD}
 use Rattle.rules.specs.declared.Avp.{Avp}
 use Rattle.rules.specs.declared.Verdict.{Verdict}
 use Rattle.rules.specs.declared.Outcome.{Outcome}
@@ -23,8 +23,8 @@ use Rattle.rules.specs.Avp.{endOf, named}
 use Rattle.rules.specs.Dictionary.{Entry, defined, membersOf}
 use Rattle.rules.specs.Rows.{Row, rowsOf, admitsOthers}
 use Rattle.rules.specs.RowChecks.{admission, noneMet, counted, byMark, byAdmission, memberOutcome, missingFrom, membersOutcome, membersAt, groupOutcome, groupsOutcome, listOutcome, rowsOutcome}
-use Rattle.rules.specs.Search.{avpIn, isAt, firstFrom, search, member}
-use Rattle.rules.specs.Exchange.{present, firstFound, direction, volume, firstRequest, laterRequest, requestBy, requestOutcome, resultBy, resultOutcome, ifFound, policiesBy, policiesOutcome, policyOutcome, policyAt, eachPolicy, answerOutcome, windowBy, windowOutcome, windowAt, eachWindow, byCommand, exchangeOutcome}
+use Rattle.rules.specs.Search.{avpIn, isAt, member}
+use Rattle.rules.specs.Exchange.{present, volume, notBeside, totalAlone, firstRequest, laterRequest, requestBy, requestOutcome, resultBy, resultOutcome, ifFound, policiesBy, policiesOutcome, policyOutcome, policyAt, eachPolicy, answerOutcome, windowBy, windowOutcome, windowAt, eachWindow, byCommand, exchangeOutcome}
 use Rattle.rules.proofs.demands.numbering.Refusals.{meets, AvpRefusals, pass-meets, either, both, in-turn}
 
 -- the command's list, then each group
@@ -98,22 +98,28 @@ module _ (t : Verdict → Bool) (r : AvpRefusals t) where
 
   volume-meets : (xs : List Avp) (end : ℕ) → meets t (volume xs end) ≡ true
   unfolding volume
-  volume-meets xs end = present-meets end 0 414 (firstFound (search xs 0 421) (direction xs))
+  volume-meets xs end = search present-meets
+
+  beside-meets : (xs : List Avp) (f g : Found) → meets t (notBeside xs f g) ≡ true
+  unfolding meets
+  beside-meets xs (At i) (At j) = r .unallowed _ _ _
+  beside-meets xs (At i) Nothing = refl
+  beside-meets xs Nothing g = refl
+
+  total-meets : (xs : List Avp) → meets t (totalAlone xs) ≡ true
+  unfolding totalAlone
+  total-meets xs = search beside-meets
+
+  -- the rules of a request, in any order
+  ruleset of-request = (in-turn, present-meets, volume-meets, total-meets)
 
   first-meets : (xs : List Avp) (end : ℕ) → meets t (firstRequest xs end) ≡ true
   unfolding firstRequest
-  first-meets xs end =
-      in-turn t _ _ (present-meets end 10415 532 (search xs 10415 532))
-      (in-turn t _ _ (volume-meets xs end)
-      (in-turn t _ _ (present-meets end 10415 4209 (search xs 10415 4209))
-      (present-meets end 10415 4204 (search xs 10415 4204))))
+  first-meets xs end = search of-request
 
   later-meets : (xs : List Avp) (end : ℕ) → meets t (laterRequest xs end) ≡ true
   unfolding laterRequest
-  later-meets xs end =
-      in-turn t _ _ (present-meets end 10415 4202 (search xs 10415 4202))
-      (in-turn t _ _ (present-meets end 10415 4208 (search xs 10415 4208))
-      (present-meets end 0 293 (search xs 0 293)))
+  later-meets xs end = search of-request
 
   request-by : (xs : List Avp) (s : List ℕ) (end : ℕ) (f : Found) → meets t (requestBy xs s end f) ≡ true
   unfolding meets
@@ -122,7 +128,7 @@ module _ (t : Verdict → Bool) (r : AvpRefusals t) where
 
   request-meets : (xs : List Avp) (s : List ℕ) (end : ℕ) → meets t (requestOutcome xs s end) ≡ true
   unfolding requestOutcome
-  request-meets xs s end = request-by xs s end (search xs 10415 4203)
+  request-meets xs s end = search request-by
 
   result-by : (xs : List Avp) (end : ℕ) (f g : Found) → meets t (resultBy xs end f g) ≡ true
   unfolding meets
@@ -133,7 +139,7 @@ module _ (t : Verdict → Bool) (r : AvpRefusals t) where
 
   result-meets : (xs : List Avp) (end : ℕ) → meets t (resultOutcome xs end) ≡ true
   unfolding resultOutcome
-  result-meets xs end = result-by xs end (search xs 0 268) (search xs 0 297)
+  result-meets xs end = search result-by
 
   found-meets : (f : Found) (o : Outcome) → meets t o ≡ true → meets t (ifFound f o) ≡ true
   unfolding meets
@@ -141,22 +147,16 @@ module _ (t : Verdict → Bool) (r : AvpRefusals t) where
   found-meets Nothing o h = refl
 
   policies-by : (xs : List Avp) (end : ℕ) (f : Found) → meets t (policiesBy xs end f) ≡ true
-  policies-by xs end (At i) =
-      let second = firstFrom (i + 1) 0 1 (drop (i + 1) xs) 10415 4207 in
-      in-turn t _ _ (present-meets end 10415 4202 (search xs 10415 4202))
-      (found-meets second _ (present-meets end 10415 2207 (search xs 10415 2207)))
+  policies-by xs end (At i) = search (in-turn, present-meets, found-meets)
   policies-by xs end Nothing = pass-meets t
 
   policies-meets : (xs : List Avp) (end : ℕ) → meets t (policiesOutcome xs end) ≡ true
   unfolding policiesOutcome
-  policies-meets xs end = policies-by xs end (search xs 10415 4207)
+  policies-meets xs end = search policies-by
 
   policy-meets : (xs : List Avp) (i : ℕ) → meets t (policyOutcome xs i) ≡ true
   unfolding policyOutcome
-  policy-meets xs i =
-      let end = endOf (avpIn xs i) in
-      in-turn t _ _ (present-meets end 10415 4204 (member xs i 2 10415 4204))
-      (present-meets end 0 432 (member xs i 2 0 432))
+  policy-meets xs i = search (in-turn, present-meets)
 
   -- an outcome of some positions
   where-meets : (b : Bool) (o : Outcome) → meets t o ≡ true → meets t (cond b o Pass) ≡ true
