@@ -24,6 +24,8 @@ pub mod Order
 pub mod States
 -- what a search finds
 pub mod Found
+-- request [2]: total volume beside a direction
+pub mod Volumes
 -- what a listing tells of a book
 pub mod Listings
 pub mod Examples
