@@ -52,9 +52,9 @@ fn steps(case: &Case) -> Vec<Step> {
             steps.push(Box::new(move |case| drop_place(case, at, settles)));
             steps.push(Box::new(move |case| set_length(case, at, 0, settles)));
             steps.push(Box::new(move |case| set_length(case, at, place.length / 2, settles)));
-        }
-        if at > 0 {
-            steps.push(Box::new(move |case| case.draft.places[at] = case.draft.places[at - 1]));
+            if at > 0 {
+                steps.push(Box::new(move |case| copy_place(case, at, settles)));
+            }
         }
         steps.push(Box::new(move |case| case.draft.places[at] = Place::default()));
         steps.push(Box::new(move |case| case.draft.places[at].start = 0));
@@ -80,6 +80,14 @@ fn drop_place(case: &mut Case, at: usize, settles: bool) {
         if settles {
             settle(draft.used_mut());
         }
+    }
+}
+
+/// Makes the place the same as the one before it.
+fn copy_place(case: &mut Case, at: usize, settles: bool) {
+    case.draft.places[at] = case.draft.places[at - 1];
+    if settles {
+        settle(case.draft.used_mut());
     }
 }
 
