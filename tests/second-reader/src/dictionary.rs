@@ -127,6 +127,12 @@ dictionary! {
     TransferPolicy                10415 4207 Group  M,
 }
 
+/// The volumes of a transfer's directions.
+pub const DIRECTIONS: [Kind; 2] = [Kind::CcOutputOctets, Kind::CcInputOctets];
+
+/// The volumes of a transfer: of its directions, and the total.
+pub const VOLUMES: [Kind; 3] = [Kind::CcOutputOctets, Kind::CcInputOctets, Kind::CcTotalOctets];
+
 /// A set of known AVPs, one bit for each.
 #[derive(Clone, Copy, Debug, Default, PartialEq, Eq)]
 pub struct Kinds(u64);

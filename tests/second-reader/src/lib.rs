@@ -1,5 +1,5 @@
 //! An independent reader and writer of Diameter Nt commands (Background-Data-Transfer request and
-//! answer), written from document 01 and its readings alone.
+//! answer), written from documents 01 and 02 and their readings alone.
 //!
 //! One pass over the octets decides everything: the walk counts rows and gathers what the
 //! exchange rules need while it goes, so [`verdict()`] allocates nothing.

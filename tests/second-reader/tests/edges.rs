@@ -1,4 +1,4 @@
-//! Every case of 01's "Commands at the edges", its worked book, and the readings.
+//! Every case of 01's "Commands at the edges", its worked book, the readings, and the rules of 02.
 
 use commands::{s_list, S};
 use second_reader::{data, listing, number, read, search, verdict, Avp, Record, Verdict};
@@ -48,6 +48,24 @@ fn h() -> Vec<u8> {
 
 fn window(start: u32, end: u32) -> Vec<u8> {
     tgpp(4204, &[tgpp(4206, &four(start)), tgpp(4205, &four(end))].concat())
+}
+
+/// A group of one-octet members and these, 32 octets without them.
+fn proxy(inner: &[Vec<u8>]) -> Vec<u8> {
+    plain(284, &[vec![plain(280, b"h"), plain(33, b"s")], inner.to_vec()].concat().concat())
+}
+
+/// A volume of 0: 16 octets.
+fn volume(code: u32) -> Vec<u8> {
+    plain(code, &[0; 8])
+}
+
+/// S with 4203 = 0, then 532 at 160, 4209 at 176 and a window at 192: 236 octets, and a volume alone is missing.
+fn volumeless() -> Vec<Vec<u8>> {
+    let mut list = s_list();
+    list[6] = tgpp(4203, &four(0));
+    list.extend([tgpp(532, b"a"), tgpp(4209, &four(1)), window(1, 2)]);
+    list
 }
 
 fn answer_list() -> Vec<Vec<u8>> {
@@ -188,15 +206,14 @@ fn limits() {
 
 #[test]
 fn depth() {
-    let proxy = |inner: &[u8]| plain(284, &[plain(280, b"h"), plain(33, b"s"), inner.to_vec()].concat());
     let with = |group: Vec<u8>| {
         let mut list = s_list();
         list.push(group);
         command(0xC0, &list)
     };
-    assert_eq!(judge(&with(proxy(&proxy(&proxy(b""))))), (0, 0, 0, 0));
-    let deepest = plain(284, b"");
-    assert_eq!(judge(&with(proxy(&proxy(&proxy(&deepest))))), (7003, 160 + 3 * 32, 0, 284));
+    let three = |inner: &[Vec<u8>]| proxy(&[proxy(&[proxy(inner)])]);
+    assert_eq!(judge(&with(three(&[]))), (0, 0, 0, 0));
+    assert_eq!(judge(&with(three(&[plain(284, b"")]))), (7003, 160 + 3 * 32, 0, 284));
 }
 
 #[test]
@@ -234,7 +251,7 @@ fn requests() {
     list[6] = tgpp(4203, &four(0));
     for (row, vendor, code) in [
         (tgpp(532, b"a"), TGPP, 532),
-        (plain(421, &[0; 8]), 0, 414),
+        (volume(421), 0, 414),
         (tgpp(4209, &four(1)), TGPP, 4209),
         (window(1, 2), TGPP, 4204),
     ] {
@@ -248,6 +265,83 @@ fn requests() {
         list.remove(row);
         let octets = command(0xC0, &list);
         assert_eq!(judge(&octets), (5005, octets.len() as u32, vendor, code));
+    }
+}
+
+/// Judges a list with these behind it.
+fn judge_with(list: &[Vec<u8>], more: &[Vec<u8>]) -> (u32, u32, u32, u32) {
+    judge(&command(0xC0, &[list, more].concat()))
+}
+
+#[test]
+fn total_beside_a_direction() {
+    for alone in [&[414][..], &[412], &[414, 412], &[421]] {
+        let volumes: Vec<_> = alone.iter().map(|&code| volume(code)).collect();
+        assert_eq!(judge_with(&volumeless(), &volumes), (0, 0, 0, 0), "{alone:?}");
+    }
+    for (together, place) in [
+        (&[421, 414][..], 236),
+        (&[414, 421], 252),
+        (&[421, 412], 236),
+        (&[412, 421], 252),
+        (&[421, 414, 412], 236),
+        (&[421, 412, 414], 236),
+        (&[414, 421, 412], 252),
+        (&[412, 421, 414], 252),
+        (&[414, 412, 421], 268),
+        (&[412, 414, 421], 268),
+    ] {
+        let volumes: Vec<_> = together.iter().map(|&code| volume(code)).collect();
+        assert_eq!(judge_with(&volumeless(), &volumes), (5008, place, 0, 421), "{together:?}");
+        // Presence counts, not the value.
+        let volumes: Vec<_> = together.iter().map(|&code| plain(code, &[0xFF; 8])).collect();
+        assert_eq!(judge_with(&volumeless(), &volumes), (5008, place, 0, 421), "{together:?}");
+        // No rule of a request with 4203 = 1.
+        assert_eq!(judge_with(&s_list(), &volumes), (0, 0, 0, 0), "{together:?}");
+    }
+    // At the list's start and at its end.
+    for (first, last, place) in [(421, 414, 32), (414, 421, 252)] {
+        let mut list = volumeless();
+        list.insert(1, volume(first));
+        assert_eq!(judge_with(&list, &[volume(last)]), (5008, place, 0, 421));
+    }
+}
+
+#[test]
+fn total_beside_a_direction_in_its_order() {
+    let both = [volume(421), volume(414)];
+    let without = |gone: &[usize]| {
+        let list = volumeless().into_iter().enumerate();
+        list.filter(|(at, _)| !gone.contains(at)).map(|(_, avp)| avp).collect::<Vec<_>>()
+    };
+    // Behind 532, before 4209, 4204 and a wrong window.
+    let (asp, ues, time) = (10, 11, 12);
+    assert_eq!(judge_with(&without(&[asp]), &both), (5005, 220 + 32, TGPP, 532));
+    assert_eq!(judge_with(&without(&[ues]), &both), (5008, 220, 0, 421));
+    assert_eq!(judge_with(&without(&[time]), &both), (5008, 192, 0, 421));
+    assert_eq!(judge_with(&without(&[ues, time]), &both), (5008, 176, 0, 421));
+    assert_eq!(judge_with(&[without(&[time]), vec![window(2, 1)]].concat(), &both), (5008, 236, 0, 421));
+    // Behind the rows.
+    assert_eq!(judge_with(&volumeless(), &[volume(414), volume(421), volume(421)]), (5009, 268, 0, 421));
+    assert_eq!(judge_with(&volumeless(), &[both.concat(), plain(284, b"")]), (5005, 276, 0, 280));
+}
+
+#[test]
+fn total_and_direction_in_two_lists() {
+    for direction in [412, 414] {
+        let (total, direction) = (volume(421), volume(direction));
+        for (own, inner) in [(&total, &direction), (&direction, &total)] {
+            assert_eq!(judge_with(&volumeless(), &[own.clone(), proxy(&[inner.clone()])]), (0, 0, 0, 0));
+            assert_eq!(judge_with(&volumeless(), &[proxy(&[proxy(&[inner.clone()])]), own.clone()]), (0, 0, 0, 0));
+        }
+        let inner = proxy(&[total.clone(), direction.clone()]);
+        assert_eq!(judge_with(&volumeless(), std::slice::from_ref(&inner)), (5005, 236 + 64, 0, 414));
+        assert_eq!(judge_with(&volumeless(), &[inner, total.clone()]), (0, 0, 0, 0));
+        // Failed-AVP is not looked into, and another vendor's 421 is another AVP.
+        assert_eq!(judge_with(&volumeless(), &[direction.clone(), plain(279, &total)]), (0, 0, 0, 0));
+        assert_eq!(judge_with(&volumeless(), &[direction.clone(), avp(TGPP, 421, 0, &[0; 8])]), (0, 0, 0, 0));
+        // No rule of an answer.
+        assert_eq!(judge(&command(0x40, &[answer_list(), vec![total, direction]].concat())), (0, 0, 0, 0));
     }
 }
 

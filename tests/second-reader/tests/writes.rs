@@ -1,5 +1,5 @@
 //! The writer: what it writes, each of 7006's conditions, the order of refusals, and the limits.
-//! Expected octets and numbers are 01's, by hand.
+//! Expected octets and numbers are 01's and 02's, by hand.
 
 use commands::S;
 use second_reader::{read, verdict, write, Draft, Place, Written};
@@ -280,4 +280,49 @@ fn what_the_reader_refuses() {
     assert_eq!(changed(|draft| draft.places[8].code = 282), [5005, 160, 0, 293, 0]);
     assert_eq!(changed(|draft| draft.places.swap(0, 3)), [5008, 52, 0, 263, 0]);
     assert_eq!(answer(&s_with(&[place(1, 0, 283, 0, 0)]), LENT), [5009, 160, 0, 283, 0]);
+}
+
+/// The octets of LENT, then eight of 0.
+fn lent_with_0() -> Vec<u8> {
+    [&LENT[..], &[0; 8]].concat()
+}
+
+/// S with 4203 as given by its start in `lent_with_0`, then 532, 4209, a window from 0 to 7 and these: 236 octets
+/// without them.
+fn request(type_start: u32, more: &[Place]) -> Draft {
+    let mut places = s_places();
+    places[7].start = type_start;
+    places.extend([place(1, TGPP, 532, 0, 1), place(1, TGPP, 4209, 6, 4), place(1, TGPP, 4204, 0, 32)]);
+    places.extend([place(2, TGPP, 4206, 21, 4), place(2, TGPP, 4205, 6, 4)]);
+    draft(&[&places, more].concat())
+}
+
+#[test]
+fn total_beside_a_direction() {
+    let (zero, one) = (21, 10);
+    let volume = |depth, code| place(depth, 0, code, 21, 8);
+    let (total, output, input) = (volume(1, 421), volume(1, 414), volume(1, 412));
+    for alone in [&[total][..], &[output], &[input], &[input, output]] {
+        let length = 236 + 16 * alone.len() as u32;
+        assert_eq!(answer(&request(zero, alone), &lent_with_0()), [0, 0, 0, 0, length]);
+    }
+    // The place is that in the octets that would be written.
+    for (together, place) in [
+        (&[total, output][..], 236),
+        (&[output, total], 252),
+        (&[total, input], 236),
+        (&[input, total], 252),
+        (&[input, total, output], 252),
+        (&[output, input, total], 268),
+    ] {
+        let length = 236 + 16 * together.len();
+        let first = request(zero, together);
+        assert_eq!(written(&first, &lent_with_0(), length).0, [5008, place, 0, 421, 0]);
+        assert_eq!(written(&first, &lent_with_0(), length - 1).0, TOO_SHORT);
+        assert_eq!(answer(&request(one, together), &lent_with_0()), [0, 0, 0, 0, length as u32]);
+    }
+    // In a group it does not count: 284 of 280, 33 and the total.
+    let group = [place(1, 0, 284, 0, 40), place(2, 0, 280, 0, 1), place(2, 0, 33, 1, 1), volume(2, 421)];
+    let within = request(zero, &[&group[..], &[output]].concat());
+    assert_eq!(answer(&within, &lent_with_0()), [0, 0, 0, 0, 236 + 48 + 16]);
 }

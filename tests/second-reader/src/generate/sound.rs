@@ -2,7 +2,7 @@
 
 use super::prng::Prng;
 use super::tree::{Body, Node, Tree};
-use crate::dictionary::{Form, Kind};
+use crate::dictionary::{Form, Kind, DIRECTIONS, VOLUMES};
 use crate::header::LONGEST_COMMAND;
 use crate::record::MOST_AVPS;
 use crate::rows::{self, Rows};
@@ -46,7 +46,7 @@ fn request(prng: &mut Prng) -> Vec<Node> {
     if let Some(node) = list.iter_mut().find(|node| node.code == TransferRequestType.code()) {
         node.body = Body::Data((kind as u32).to_be_bytes().to_vec());
     }
-    let volumes = prng.pick(&[1, 2, 4, 3, 5, 6, 7]);
+    let volumes = volumes(kind == 0, prng);
     let mut optional = |wanted: bool, kinds: &[Kind]| {
         for &kind in kinds {
             if wanted || prng.one_in(4) {
@@ -56,11 +56,18 @@ fn request(prng: &mut Prng) -> Vec<Node> {
     };
     optional(false, &[Drmp, NetworkAreaInfoList, OcSupportedFeatures]);
     optional(kind == 0, &[ApplicationServiceProviderIdentity, NumberOfUes, TimeWindow]);
-    optional(kind == 0 && volumes & 1 != 0, &[CcOutputOctets]);
-    optional(kind == 0 && volumes & 2 != 0, &[CcInputOctets]);
-    optional(kind == 0 && volumes & 4 != 0, &[CcTotalOctets]);
+    optional(true, &volumes);
     optional(kind == 1, &[ReferenceId, TransferPolicyId, DestinationHost]);
     list
+}
+
+/// The volumes of a request: of one direction or both, or else the total, where an exchange rule asks for them; any
+/// where none does.
+fn volumes(ruled: bool, prng: &mut Prng) -> Vec<Kind> {
+    if ruled {
+        return prng.pick(&[&DIRECTIONS[..1], &DIRECTIONS[1..], &DIRECTIONS, &[CcTotalOctets]]).to_vec();
+    }
+    VOLUMES.into_iter().filter(|_| prng.one_in(2)).collect()
 }
 
 fn answer(prng: &mut Prng) -> Vec<Node> {
