@@ -113,6 +113,13 @@ impl Draft {
         &self.places[self.used().len()..]
     }
 
+    /// Removes this many used places from `at` on.
+    pub(crate) fn remove(&mut self, at: usize, number: usize) {
+        self.places[at..].rotate_left(number);
+        self.places[MOST_AVPS - number..].fill(Place::default());
+        self.count -= number as u32;
+    }
+
     /// All numbers: R, P, E, T, both identifiers and the count, then each place's seven.
     pub fn numbers(&self) -> [u32; RECORD_NUMBERS] {
         let mut numbers = [0; RECORD_NUMBERS];

@@ -1,6 +1,6 @@
 //! Makes a case that fails small, and shows it.
 
-use crate::draft::Place;
+use crate::draft::{avps, Place};
 use crate::generate::drafts::{settle, Case};
 use std::fmt::{self, Display, Formatter};
 
@@ -56,6 +56,7 @@ fn steps(case: &Case) -> Vec<Step> {
                 steps.push(Box::new(move |case| copy_place(case, at, settles)));
             }
         }
+        steps.push(Box::new(move |case| absorb(case, at)));
         steps.push(Box::new(move |case| case.draft.places[at] = Place::default()));
         steps.push(Box::new(move |case| case.draft.places[at].start = 0));
         steps.push(Box::new(move |case| case.draft.places[at].p = 0));
@@ -74,12 +75,27 @@ fn steps(case: &Case) -> Vec<Step> {
 fn drop_place(case: &mut Case, at: usize, settles: bool) {
     let draft = &mut case.draft;
     if at < draft.used().len() {
-        draft.places[at..].rotate_left(1);
-        draft.places[255] = Place::default();
-        draft.count -= 1;
+        draft.remove(at, 1);
         if settles {
             settle(draft.used_mut());
         }
+    }
+}
+
+/// Gives the octets of the AVP at `at` and of its members to a plain one before it in its list: the command is as long.
+fn absorb(case: &mut Case, at: usize) {
+    let draft = &mut case.draft;
+    let Some((place, members)) = draft.used().get(at..).and_then(|rest| avps(rest).next()) else {
+        return;
+    };
+    let (length, depth, gone) = (place.padded(), place.depth, 1 + members.len());
+    let Some(before) = at.checked_sub(1).map(|at| &mut draft.places[at]) else {
+        return;
+    };
+    if !before.is_group() && before.depth == depth {
+        before.length = (before.padded() - before.header() + length) as u32;
+        before.start = 0;
+        draft.remove(at, gone);
     }
 }
 
