@@ -69,11 +69,12 @@ fn record(prng: &mut Prng) -> (Draft, Vec<u8>) {
     }
 }
 
-/// A command's tree, in half of the cases made wrong, as a draft.
+/// A command's tree, in most cases changed, as a draft.
 fn built(prng: &mut Prng) -> (Draft, Vec<u8>) {
     let mut tree = crate::generate::sound(prng);
     match prng.below(8) {
-        0..=2 => {}
+        0..=1 => {}
+        2 => mutate::volumes(&mut tree, prng),
         3..=6 => mutate::tree(&mut tree, prng),
         _ => mutate::rules(&mut tree, prng),
     }

@@ -1,7 +1,8 @@
 //! Members that are missing, too many or out of place.
 
+use super::fields::window;
 use super::pick::{one, some_list};
-use crate::dictionary::Kind;
+use crate::dictionary::{Kind, DIRECTIONS, VOLUMES};
 use crate::generate::prng::Prng;
 use crate::generate::sound;
 use crate::generate::tree::{Body, Node, Tree};
@@ -43,10 +44,7 @@ pub fn drop_ruled(tree: &mut Tree, prng: &mut Prng) {
     }
     for _ in 0..prng.pick(&[1, 1, 1, 2, 3, 5]) {
         let gone = prng.pick(&there);
-        tree.list.retain(|node| {
-            let volume = gone == CcOutputOctets && (node.is(CcInputOctets) || node.is(CcTotalOctets));
-            !node.is(gone) && !volume
-        });
+        tree.list.retain(|node| !(node.is(gone) || gone == CcOutputOctets && is_volume(node)));
     }
 }
 
@@ -139,6 +137,53 @@ pub fn outcome(tree: &mut Tree, prng: &mut Prng) {
             tree.list.insert(prng.below(tree.list.len() + 1), node);
         }
     }
+}
+
+/// The total volume beside one direction or both, in any order; at times one or the other in groups alone, and at times
+/// with what the rules before and behind this one refuse.
+pub fn volumes(tree: &mut Tree, prng: &mut Prng) {
+    tree.list.retain(|node| !is_volume(node));
+    // With both directions there are six orders, with one there are two.
+    let directions = prng.pick(&[&DIRECTIONS[..1], &DIRECTIONS[1..], &DIRECTIONS, &DIRECTIONS, &DIRECTIONS]);
+    for kinds in [&[CcTotalOctets], directions] {
+        let within = prng.one_in(4);
+        for &kind in kinds {
+            let node = volume(kind, within, prng);
+            // What stands first stays first.
+            let at = (1 + prng.below(tree.list.len())).min(tree.list.len());
+            tree.list.insert(at, node);
+        }
+    }
+    match prng.below(9) {
+        0..=2 => {
+            let gone = prng.pick(&[ApplicationServiceProviderIdentity, NumberOfUes, TimeWindow]);
+            tree.list.retain(|node| !node.is(gone));
+        }
+        3 => window(tree, prng),
+        _ => {}
+    }
+}
+
+/// A volume, at times of 0: itself, or within one to three groups.
+fn volume(kind: Kind, within: bool, prng: &mut Prng) -> Node {
+    let mut node = sound::known(kind, 1, prng);
+    if prng.one_in(4) {
+        node.body = Body::Data(vec![0; 8]);
+    }
+    let groups = if within { 1 + prng.below(3) } else { 0 };
+    for _ in 0..groups {
+        // Depth 3 keeps its own members plain.
+        let mut group = sound::known(prng.pick(&[ProxyInfo, SupportedFeatures]), 3, prng);
+        if let Body::Members(members) = &mut group.body {
+            members.insert(prng.below(members.len() + 1), node);
+        }
+        node = group;
+    }
+    node
+}
+
+fn is_volume(node: &Node) -> bool {
+    VOLUMES.into_iter().any(|kind| node.is(kind))
 }
 
 pub fn empty_group(tree: &mut Tree, prng: &mut Prng) {

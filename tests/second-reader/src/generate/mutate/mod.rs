@@ -6,6 +6,7 @@ mod members;
 mod octets;
 mod pick;
 
+pub use members::volumes;
 pub use octets::{fit, octets};
 
 use super::prng::Prng;
@@ -13,7 +14,7 @@ use super::tree::Tree;
 
 /// Changes the tree in one way.
 pub fn tree(tree: &mut Tree, prng: &mut Prng) {
-    match prng.below(40) {
+    match prng.below(43) {
         0 => fields::header(tree, prng),
         1..=3 => members::drop_any(tree, prng),
         4..=6 => members::drop_ruled(tree, prng),
@@ -36,6 +37,7 @@ pub fn tree(tree: &mut Tree, prng: &mut Prng) {
         37 if prng.one_in(2) => members::empty_group(tree, prng),
         37 => members::thin(tree, prng),
         38 => tree.flags ^= 0x80,
+        39..=41 => members::volumes(tree, prng),
         _ if prng.one_in(6) => limits::too_long(tree, prng),
         _ => members::policies(tree, prng),
     }
@@ -44,7 +46,7 @@ pub fn tree(tree: &mut Tree, prng: &mut Prng) {
 /// Breaks several rows or exchange rules, so that their order shows.
 pub fn rules(tree: &mut Tree, prng: &mut Prng) {
     for _ in 0..2 + prng.below(4) {
-        match prng.below(12) {
+        match prng.below(13) {
             0 | 1 => members::drop_any(tree, prng),
             2 => members::drop_ruled(tree, prng),
             3 | 4 => members::double(tree, prng),
@@ -54,6 +56,7 @@ pub fn rules(tree: &mut Tree, prng: &mut Prng) {
             9 => members::session(tree, prng),
             10 if prng.one_in(2) => members::empty_group(tree, prng),
             10 => members::thin(tree, prng),
+            11 => members::volumes(tree, prng),
             _ => members::policies(tree, prng),
         }
     }
