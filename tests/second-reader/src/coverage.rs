@@ -5,6 +5,7 @@ use crate::dictionary::{Form, Kind};
 use crate::header::HEADER;
 use crate::rows;
 use crate::verdict::{number, Verdict};
+use crate::volume_coverage::{self, Cell};
 use std::collections::BTreeMap;
 use std::fmt::{self, Display, Formatter};
 use std::ops::RangeInclusive;
@@ -27,6 +28,7 @@ pub struct Coverage {
     by_name_and_depth: BTreeMap<(u32, u32, u32, u8), u64>,
     widths_by_depth: BTreeMap<u8, u64>,
     accepted_by_depth: BTreeMap<u8, u64>,
+    by_volumes: BTreeMap<Cell, u64>,
     requests: u64,
     most_avps: usize,
     longest: usize,
@@ -37,6 +39,9 @@ impl Coverage {
     pub fn note(&mut self, octets: &[u8], verdict: &Verdict) {
         self.commands += 1;
         *self.by_number.entry(verdict.number).or_default() += 1;
+        for cell in volume_coverage::cells(octets, verdict) {
+            *self.by_volumes.entry(cell).or_default() += 1;
+        }
         match verdict.number {
             number::ACCEPTED => self.accepted(octets),
             _ if verdict.place < HEADER as u32 => {
@@ -81,6 +86,11 @@ impl Coverage {
     pub(crate) fn times_named(&self, number: u32, kind: Kind, mut depths: RangeInclusive<u8>) -> u64 {
         let times = |depth| self.by_name_and_depth.get(&(number, kind.vendor(), kind.code(), depth));
         depths.by_ref().filter_map(times).sum()
+    }
+
+    /// How often the volumes of a command were as this cell says.
+    pub(crate) fn times_volumes(&self, cell: Cell) -> u64 {
+        self.by_volumes.get(&cell).copied().unwrap_or(0)
     }
 
     fn accepted(&mut self, octets: &[u8]) {
@@ -137,6 +147,9 @@ impl Display for Coverage {
                 }
             }
             writeln!(f)?;
+        }
+        for cell in Cell::all() {
+            writeln!(f, "{:>8}  {cell:?}", self.times_volumes(cell))?;
         }
         Ok(())
     }

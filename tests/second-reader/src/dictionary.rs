@@ -28,7 +28,7 @@ macro_rules! must {
 macro_rules! dictionary {
     ($($kind:ident $vendor:tt $code:literal $form:ident $m:ident,)*) => {
         /// A known AVP, by its name in the standards.
-        #[derive(Clone, Copy, Debug, PartialEq, Eq)]
+        #[derive(Clone, Copy, Debug, PartialEq, Eq, PartialOrd, Ord)]
         #[repr(u8)]
         #[allow(missing_docs)]
         pub enum Kind { $($kind),* }

@@ -1,10 +1,11 @@
 //! What a run must have reached: each number, each of the walk's checks at each depth, each row's missing and
-//! exceeding, and each exchange rule. A run that lacks one has tested less than it says.
+//! exceeding, each exchange rule, and the volumes' cells. A run that lacks one has tested less than it says.
 
 use crate::coverage::Coverage;
 use crate::dictionary::Kind;
 use crate::rows::{self, Rows};
 use crate::verdict::number;
+use crate::volume_coverage::Cell;
 use std::ops::RangeInclusive;
 
 /// The depth of a command's own list, and those of a group's members.
@@ -12,9 +13,10 @@ const OWN: RangeInclusive<u8> = 1..=1;
 const WITHIN: RangeInclusive<u8> = 2..=4;
 
 /// The exchange rules: number, the AVP that it names, and the depth of the list.
-const EXCHANGE: [(u32, Kind, RangeInclusive<u8>); 13] = [
+const EXCHANGE: [(u32, Kind, RangeInclusive<u8>); 14] = [
     (number::MISSING_AVP, Kind::ApplicationServiceProviderIdentity, OWN),
     (number::MISSING_AVP, Kind::CcOutputOctets, OWN),
+    (number::AVP_NOT_ALLOWED, Kind::CcTotalOctets, OWN),
     (number::MISSING_AVP, Kind::NumberOfUes, OWN),
     (number::MISSING_AVP, Kind::TimeWindow, OWN),
     (number::MISSING_AVP, Kind::ReferenceId, OWN),
@@ -70,6 +72,11 @@ impl Coverage {
         for (number, kind, depths) in EXCHANGE {
             if self.times_named(number, kind, depths) == 0 {
                 gaps.push(format!("exchange rule {number} for {}", kind.code()));
+            }
+        }
+        for cell in Cell::all() {
+            if self.times_volumes(cell) == 0 {
+                gaps.push(format!("volumes: {cell:?}"));
             }
         }
         gaps

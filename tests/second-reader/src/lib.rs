@@ -27,6 +27,7 @@ pub mod state_coverage;
 pub mod states;
 pub mod trial;
 mod verdict;
+pub mod volume_coverage;
 mod walk;
 pub mod write_coverage;
 mod writer;

@@ -1,13 +1,14 @@
 //! What a run of write calls reached: each of 7006's ways, 7001 and 7004, each of the reader's
-//! refusals through the writer, and acceptance, by room. A run that lacks a cell has tested less
-//! than it says.
+//! refusals through the writer, and acceptance, by room, and the cells of the volumes. A run that
+//! lacks a cell has tested less than it says.
 
 use crate::draft::{Draft, Place};
 use crate::generate::drafts::{is_accepted, room, Case, Origin, Room, Way};
 use crate::header::LONGEST_COMMAND;
 use crate::record::MOST_AVPS;
 use crate::verdict::number;
-use crate::writer::{length, Written};
+use crate::volume_coverage;
+use crate::writer::{encode, length, Written};
 use std::collections::BTreeMap;
 use std::fmt::{self, Display, Formatter};
 
@@ -79,6 +80,8 @@ pub enum Cell {
     Accepted(Origin, Room),
     /// Acceptance of a draft that has this.
     AcceptedWith(Feature),
+    /// The reader's answer to what would be written, by its volumes.
+    Volumes(volume_coverage::Cell),
 }
 
 impl Cell {
@@ -100,6 +103,7 @@ impl Cell {
         }
         let features = [Overlap, PartAtTheEnd, EmptyPartAtTheEnd, GroupElsewhere, MostAvps, Longest, Depth4];
         cells.extend(features.map(Cell::AcceptedWith));
+        cells.extend(volume_coverage::Cell::all().into_iter().map(Cell::Volumes));
         cells
     }
 }
@@ -141,13 +145,17 @@ fn cells(case: &Case, answer: &Written) -> Vec<Cell> {
         number::MALFORMED_DRAFT => case.way.map(Cell::Malformed).into_iter().collect(),
         number::COMMAND_TOO_LONG => vec![Cell::TooLong(excess(length), short)],
         number::OUTPUT_TOO_SHORT => vec![Cell::TooShort(room, !is_accepted(draft, octets))],
-        number::ACCEPTED => features(draft, octets)
-            .into_iter()
-            .map(Cell::AcceptedWith)
-            .chain([Cell::Accepted(case.origin, room)])
-            .collect(),
-        number => vec![Cell::Refused(number, room)],
+        number::ACCEPTED => {
+            let features = features(draft, octets).into_iter().map(Cell::AcceptedWith);
+            features.chain(volumes(case, answer)).chain([Cell::Accepted(case.origin, room)]).collect()
+        }
+        number => volumes(case, answer).chain([Cell::Refused(number, room)]).collect(),
     }
+}
+
+fn volumes(case: &Case, answer: &Written) -> impl Iterator<Item = Cell> {
+    let command = encode(&case.draft, &case.octets);
+    volume_coverage::cells(&command, &answer.verdict).into_iter().map(Cell::Volumes)
 }
 
 fn excess(length: u64) -> Excess {

@@ -98,7 +98,7 @@ fn list_length(places: &[Place]) -> u64 {
 }
 
 /// The octets of a draft that is not malformed and not too long.
-fn encode(draft: &Draft, octets: &[u8]) -> Vec<u8> {
+pub(crate) fn encode(draft: &Draft, octets: &[u8]) -> Vec<u8> {
     let mut out = vec![0; HEADER];
     put_list(draft.used(), octets, &mut out);
     let length = out.len() as u32;

@@ -2,6 +2,7 @@
 
 use commands::{s_list, S};
 use second_reader::{data, listing, number, read, search, verdict, Avp, Record, Verdict};
+use std::slice::from_ref;
 
 const TGPP: u32 = 10_415;
 
@@ -331,11 +332,11 @@ fn total_and_direction_in_two_lists() {
     for direction in [412, 414] {
         let (total, direction) = (volume(421), volume(direction));
         for (own, inner) in [(&total, &direction), (&direction, &total)] {
-            assert_eq!(judge_with(&volumeless(), &[own.clone(), proxy(&[inner.clone()])]), (0, 0, 0, 0));
-            assert_eq!(judge_with(&volumeless(), &[proxy(&[proxy(&[inner.clone()])]), own.clone()]), (0, 0, 0, 0));
+            assert_eq!(judge_with(&volumeless(), &[own.clone(), proxy(from_ref(inner))]), (0, 0, 0, 0));
+            assert_eq!(judge_with(&volumeless(), &[proxy(&[proxy(from_ref(inner))]), own.clone()]), (0, 0, 0, 0));
         }
         let inner = proxy(&[total.clone(), direction.clone()]);
-        assert_eq!(judge_with(&volumeless(), std::slice::from_ref(&inner)), (5005, 236 + 64, 0, 414));
+        assert_eq!(judge_with(&volumeless(), from_ref(&inner)), (5005, 236 + 64, 0, 414));
         assert_eq!(judge_with(&volumeless(), &[inner, total.clone()]), (0, 0, 0, 0));
         // Failed-AVP is not looked into, and another vendor's 421 is another AVP.
         assert_eq!(judge_with(&volumeless(), &[direction.clone(), plain(279, &total)]), (0, 0, 0, 0));
@@ -426,12 +427,13 @@ fn books() {
     let odd = changed([h(), vec![0]].concat(), 3, &[21]);
     assert_eq!(listing(&book(&[odd])), b"NTB 1\n1 5 5015 1 0 0\nend 1 0\n");
     let full = changed(vec![1; 65_531], 0, &four(0x0100_0000 | 65_531));
-    assert_eq!(listing(&book(std::slice::from_ref(&full))), b"NTB 1\n1 5 5015 1 0 0\nend 1 0\n");
+    assert_eq!(listing(&book(from_ref(&full))), b"NTB 1\n1 5 5015 1 0 0\nend 1 0\n");
     assert_eq!(listing(&book(&[full, vec![0]])), b"not a book\n");
 }
 
 #[test]
 fn generated() {
+    use second_reader::coverage::Coverage;
     use second_reader::generate::{command, sound, Prng};
     let mut prng = Prng::new(7);
     for _ in 0..20_000 {
@@ -440,9 +442,11 @@ fn generated() {
         let limit = [number::COMMAND_TOO_LONG, number::TOO_MANY_AVPS].contains(&number);
         assert!(number == 0 || limit, "{number}: {octets:02X?}");
     }
-    let mut met = std::collections::BTreeSet::new();
+    let mut coverage = Coverage::default();
     for _ in 0..100_000 {
-        met.insert(judge(&command(&mut prng)).0);
+        let octets = command(&mut prng);
+        judge(&octets);
+        coverage.note(&octets, &verdict(&octets));
     }
-    assert_eq!(met.into_iter().collect::<Vec<_>>(), number::ALL);
+    assert_eq!(coverage.gaps(), Vec::<String>::new());
 }
