@@ -1,4 +1,4 @@
-//! The exchange rules of clause 4.4.1, 02's [2] among them, on the command's own list, and the windows.
+//! The exchange rules of clause 4.4.1, request 2 of 02 among them, on the command's own list, and the windows.
 
 use crate::dictionary::{Kind, Kinds, DIRECTIONS};
 use crate::rows::missing;

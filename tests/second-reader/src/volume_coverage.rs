@@ -1,6 +1,5 @@
-//! Where the total volume (421) meets a direction (412, 414): 02's [2], by the order of the AVPs, among
-//! the rules before and behind it, and where it does not apply. A run that lacks a cell has tested less
-//! than it says.
+//! Where the total volume (421) meets a direction (412, 414), request 2 of 02: by the order of the AVPs, among the
+//! rules before and behind it, and where it does not apply. A run that lacks a cell has tested less than it says.
 
 use crate::dictionary::{Kind, Kinds, DIRECTIONS, VOLUMES};
 use crate::header;
