@@ -1,6 +1,8 @@
 -- `exchange::request::direction` meets its contract.
-use mathlib.Core.Path.{sym, _∙_}
+use mathlib.Core.Path.{_≡_, sym, _∙_}
 use borrow.Author.Needs.{needs}
+use Rattle.rules.specs.Search.{search as searched}
+use Rattle.log.specs.Log.{avpsIn}
 use Rattle.exchange.proofs.Rules.{direction-input, direction-output}
 use Rattle.exchange.proofs.request.direction.Statement.{statement}
 use Rattle.exchange.proofs.request.direction.Tie as tie
@@ -20,7 +22,9 @@ search-requires-2 c κs = search needs
 returns : tie.Need-returns
 returns c =
     let f = c .before .before .before in
-    c .search2 .ensures .is ∙ direction-output _ (sym (f .search .ensures .is) ∙ c .before .enum-told2 .given .1)
+    let a = f .before .args in
+    let output : c .search2 .result ≡ searched (avpsIn (a .log .now) (a .count)) 0 414 = c .search2 .ensures .is in
+    output ∙ direction-output _ (sym (f .search .ensures .is) ∙ c .before .enum-told2 .given .1)
 
 returns-2 : tie.Need-returns-2
 returns-2 c =
