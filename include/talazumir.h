@@ -88,9 +88,10 @@ extern "C" {
  *   7009  the run has stopped, or no such state (link)
  *
  * The place is the first octet of the AVP at fault; for 5005 the end of the list that lacks the AVP, with the missing
- * vendor and code. Of AVPs that exclude each other 5008 names Experimental-Result (297) beside Result-Code (268), and in
- * a request with 4203 = 0 CC-Total-Octets (421) beside CC-Input-Octets (412) or CC-Output-Octets (414). Header refusals
- * and 7002 have vendor and code 0; 7004, 7006, 7009 and the writer's 7001 have place 0 too. */
+ * vendor and code. Of AVPs that exclude each other 5008 names, in an answer, Experimental-Result (297) beside Result-Code
+ * (268), and in a request whose Transfer-Request-Type (4203) is 0 CC-Total-Octets (421) beside CC-Input-Octets (412) or
+ * CC-Output-Octets (414). Header refusals and 7002 have vendor and code 0; 7004, 7006, 7009 and the writer's 7001 have
+ * place 0 too. */
 struct TalazumirVerdict {
     uint32_t number;
     uint32_t place;

@@ -9,6 +9,7 @@ pub(crate) fn first_requests() {
         Start::BegunRequest,
         b"532_missing VM4203=0 M414:0000000000000001 VM4209=5 VM4204(VM4206=10 VM4205=11)
         volume_missing VM4203=0 V532:61 VM4209=5 VM4204(VM4206=10 VM4205=11)
+        volume_by_412 VM4203=0 V532:61 M412:0000000000000001 VM4209=5 VM4204(VM4206=10 VM4205=11)
         volume_by_421 VM4203=0 V532:61 M421:0000000000000001 VM4209=5 VM4204(VM4206=10 VM4205=11)
         4209_missing VM4203=0 V532:61 M414:0000000000000001 VM4204(VM4206=10 VM4205=11)
         4204_missing VM4203=0 V532:61 M414:0000000000000001 VM4209=5
@@ -44,14 +45,15 @@ pub(crate) fn later_requests() {
     );
 }
 
-// BTA: neither 268 nor 297, 5005 for 268; both, 5008 at 297.
+// BTA: neither 268 nor 297, 5005 for 268; both, 5008 at 297. No rule is on the volumes of an answer.
 pub(crate) fn results() {
     case::each(
         Start::BegunAnswer,
         b"no_result
         both_results M268=2001 M297(M266=10415 M298=1)
         268_alone M268=2001
-        297_alone M297(M266=10415 M298=1)",
+        297_alone M297(M266=10415 M298=1)
+        421_in_answer M268=2001 M414:0000000000000001 M421:0000000000000001",
     );
 }
 

@@ -138,13 +138,14 @@ answerBegins =
     ++ avp 264 0x40 9 (letter 0x68)
     ++ avp 296 0x40 9 (letter 0x72)
 
--- further cases: 01's S with 4203 = 2 and its windows; an accepted first request and an accepted answer; an answer
--- without a result and one with both; rows missing, not admitted and exceeded, in the command's own list and in a group
+-- further cases: 01's S with 4203 = 2 and its windows; an accepted first request, one without a volume, and an accepted
+-- answer; an answer without a result and one with both; rows missing, not admitted and exceeded, in the command's own list and in a group
 unfoldable pub further : List Case
 further =
     case (requestHeader 160 ++ sBegins vendorId 20 ++ sGoesOn 2 ++ sEnds) 5004 100 vendor3GPP 4203
     ∷ case (firstRequestTo 11) 0 0 0 0
     ∷ case (firstRequestTo 10) 5004 192 vendor3GPP 4205
+    ∷ case (firstRequestOf 192 (provider ++ numberOfUes) 11) 5005 192 0 414
     ∷ case (answerHeader 100 ++ answerBegins ++ avp 268 0x40 12 (octets 4 2001)) 0 0 0 0
     ∷ case (answerHeader 88 ++ answerBegins) 5005 88 0 268
     ∷ case (answerHeader 132 ++ answerBegins ++ avp 268 0x40 12 (octets 4 2001)
@@ -156,8 +157,8 @@ further =
     ∷ case (requestHeader 172 ++ sFront ++ sEnds ++ avp 264 0x40 9 (letter 0x68)) 5009 160 0 264
     ∷ []
 
--- request [2]: the total behind one direction and before the other; 532 missing beside it, which comes first, and 4209,
--- which comes later; the direction in a group; 4203 = 1
+-- request [2]: 421 behind 414; 421 before 412; with both, 532 missing, which is asked for before, and 4209 missing, which
+-- is asked for later; 414 in a group; all three with 4203 = 1; an answer
 unfoldable pub totals : List Case
 totals =
     case (firstRequestOf 224 (provider ++ volumeOf 414 ++ volumeOf 421 ++ numberOfUes) 11) 5008 148 0 421
@@ -166,7 +167,8 @@ totals =
     ∷ case (firstRequestOf 208 (provider ++ volumeOf 414 ++ volumeOf 421) 11) 5008 148 0 421
     ∷ case (firstRequestOf 256 (provider ++ volumeOf 421 ++ numberOfUes
     ++ avp 284 0x40 48 (avp 280 0x40 9 (letter 0x68) ++ avp 33 0x40 9 (letter 0x73) ++ volumeOf 414)) 11) 0 0 0 0
-    ∷ case (requestHeader 192 ++ sFront ++ sEnds ++ volumeOf 414 ++ volumeOf 421) 0 0 0 0
+    ∷ case (requestHeader 208 ++ sFront ++ sEnds ++ volumeOf 412 ++ volumeOf 414 ++ volumeOf 421) 0 0 0 0
+    ∷ case (answerHeader 132 ++ answerBegins ++ avp 268 0x40 12 (octets 4 2001) ++ volumeOf 414 ++ volumeOf 421) 0 0 0 0
     ∷ []
 
 -- the answers that cases have, and those that the definitions give

@@ -27,6 +27,8 @@ pub mod Agreement
 pub mod Calls
 pub mod Demands
 pub mod Order
+-- and what request [2] claims of the volumes in a request
+pub mod Volumes
 -- beyond 01: the canonical form of a command, which names a state
 pub mod Canonical
 -- The book and its listing: the lines, and the whole

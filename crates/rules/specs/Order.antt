@@ -3,7 +3,6 @@
 use mathlib.Core.Path.{_≡_}
 use Prim.Native.Nat.{ℕ, _≤_, _<_}
 use mathlib.Core.Bool.{Bool, true, false, not, _&&_, _||_}
-use mathlib.Core.Logic.{_⊎_}
 use mathlib.Core.List.{List, [], _∷_}
 use lib.Dec.{eqb}
 use lib.ListN.{length}
@@ -12,10 +11,8 @@ use Rattle.rules.specs.declared.Verdict.{Verdict}
 use Rattle.rules.specs.declared.Written.{Written}
 use Rattle.rules.specs.declared.Outcome.{Outcome}
 use Rattle.rules.specs.declared.Outcome.the-variants.{Pass, Refused}
-use Rattle.rules.specs.Octets.{numberAt}
 use Rattle.rules.specs.Verdict.{writerOnlyNumbers, isAmong, verdict}
-use Rattle.rules.specs.Header.{vendor3GPP, headerOutcome, commandFlags, isRequest, longestCommand}
-use Rattle.rules.specs.Search.{avpIn, FirstAvp, NoAvp}
+use Rattle.rules.specs.Header.{headerOutcome, commandFlags, isRequest, longestCommand}
 use Rattle.rules.specs.Dictionary.{dictionary}
 use Rattle.rules.specs.Walk.{whole, stopped}
 use Rattle.rules.specs.RowChecks.{listOutcome, groupsOutcome}
@@ -78,19 +75,6 @@ pub record FirstFault (c : List ℕ) : Type 0 where
   -- a fault of the walk, whatever the AVPs before it are
   pub walk : (xs : List Avp) (v : Verdict) → headerOutcome c ≡ Pass → walkOf c ≡ stopped xs v → commandVerdict c ≡ v
   pub lists : (xs : List Avp) → headerOutcome c ≡ Pass → walkOf c ≡ whole xs → FirstListFault c xs
-
--- request [2]: at these positions of its walk a first request, 4203 = 0, has 532, and 421 beside 412 or 414
-pub record TotalBeside (c : List ℕ) (xs : List Avp) (type provider total direction : ℕ) : Type 0 where
-  pub request : isRequest (commandFlags c) ≡ true
-  pub typed : FirstAvp xs vendor3GPP 4203 type
-  pub first : numberAt 4 c (avpIn xs type .start) ≡ 0
-  pub provided : FirstAvp xs vendor3GPP 532 provider
-  pub totalled : FirstAvp xs 0 421 total
-  pub directed : (FirstAvp xs 0 412 direction) ⊎ (FirstAvp xs 0 414 direction)
-
--- no 421, or neither 412 nor 414
-abbrev pub StandsAlone : List Avp → Type 0
-StandsAlone xs = (NoAvp xs 0 421) ⊎ ((NoAvp xs 0 412) × (NoAvp xs 0 414))
 
 -- the answer of a call that the writer refuses itself: place, vendor and code are 0, and the length
 abbrev pub ownRefusal : ℕ → Written

@@ -1,7 +1,7 @@
--- Request [2]: total volume beside a direction. What is refused, with its place, vendor and code, and that the rule
--- refuses nothing else. The claims stand in rules/specs/Order.
+-- Request [2]: total volume beside a direction. Which commands are refused, with place, vendor and code, and that no
+-- other request is. The claims stand in rules/specs/Volumes.
 use mathlib.Core.Path.{_≡_, refl, ap, _∙_}
-use mathlib.Core.Logic.{_⊎_, ⊎-elim}
+use mathlib.Core.Logic.{_⊎_, inl, ⊎-elim}
 use mathlib.Core.List.{List}
 use Prim.Native.Nat.{ℕ}
 use lib.ListN.{length}
@@ -15,9 +15,10 @@ use Rattle.rules.specs.Avp.{placeOf}
 use Rattle.rules.specs.Walk.{whole}
 use Rattle.rules.specs.RowChecks.{memberFault}
 use Rattle.rules.specs.Search.{avpIn, search as searched, FirstAvp, Stands}
-use Rattle.rules.specs.Exchange.{firstFound, direction, volume, notBeside, totalAlone, firstRequest, requestOutcome}
+use Rattle.rules.specs.Exchange.{present, require, firstFound, direction, volume, notBeside, totalAlone, firstRequest, laterRequest, byRequestType, requestOutcome}
 use Rattle.rules.specs.Command.{walkOf, commandVerdict}
-use Rattle.rules.specs.Order.{ownRows, groupRows, exchange, TotalBeside, StandsAlone}
+use Rattle.rules.specs.Order.{ownRows, groupRows, exchange}
+use Rattle.rules.specs.Volumes.{Has, HasDirection, StandsAlone, RequestOfType, TotalBeside, CompleteFirst, CompleteLater}
 use Rattle.rules.proofs.demands.Found.{search-first, search-none}
 use Rattle.rules.proofs.demands.Order.{demand-2-first-fault}
 
@@ -28,59 +29,87 @@ named-fault number a n =
     ap (λ (v : ℕ). refused number (placeOf a) v (a .code)) (n .vendor-is) ∙ ap (refused number (placeOf a) _) (n .code-is)
 
 module _ (xs : List Avp) where
+  -- ---- what is there is found
+
+  found : {vendor code : ℕ} (h : Has xs vendor code) → searched xs vendor code ≡ At (h .0)
+  found h = search-first xs _ _ (h .0) .1 (h .1)
+
+  required : {vendor code : ℕ} (end : ℕ) → Has xs vendor code → require xs end vendor code ≡ Pass
+  required end h = rw (found h)
+
+  either-found : (f : Found) (i : ℕ) → (j : ℕ) × (firstFound f (At i) ≡ At j)
+  either-found (At j) i = (j, refl)
+  either-found Nothing i = (i, refl)
+
+  directed : HasDirection xs → (j : ℕ) × (direction xs ≡ At j)
+  unfolding direction
+  directed = ⊎-elim (λ h. (h .0, rw (found h))) (λ h. rw (found h) (either-found (searched xs 0 412) (h .0)))
+
+  volumed : (end : ℕ) → (Has xs 0 421) ⊎ (HasDirection xs) → volume xs end ≡ Pass
+  unfolding volume
+  volumed end =
+      ⊎-elim
+      (λ h. rw (found h))
+      (λ h.
+      let d = directed h in
+      let e = either-found (searched xs 0 421) (d .0) in
+      rw (d .1, e .1))
+
   -- ---- the rule
 
-  behind-any : (i j : ℕ) (f : Found) → notBeside xs (At i) (firstFound f (At j)) ≡ memberFault 5008 (avpIn xs i)
-  behind-any i j (At k) = refl
-  behind-any i j Nothing = refl
-
-  beside : (i j : ℕ) → FirstAvp xs 0 421 i → (FirstAvp xs 0 412 j) ⊎ (FirstAvp xs 0 414 j)
-      → totalAlone xs ≡ memberFault 5008 (avpIn xs i)
-  unfolding totalAlone direction
-  beside i j t =
-      let total = search-first xs 0 421 i .1 t in
-      ⊎-elim
-      (λ d. rw (total, search-first xs 0 412 j .1 d))
-      (λ d. rw (total, search-first xs 0 414 j .1 d) (behind-any i j (searched xs 0 412)))
+  beside : (i : ℕ) → FirstAvp xs 0 421 i → HasDirection xs → totalAlone xs ≡ memberFault 5008 (avpIn xs i)
+  unfolding totalAlone
+  beside i t h = rw (found (i, t), directed h .1)
 
   none-beside : (f : Found) → notBeside xs f Nothing ≡ Pass
   none-beside (At i) = refl
   none-beside Nothing = refl
 
-  -- 02 [2]: of what has no 421, or neither 412 nor 414, the rule refuses nothing.
-  -- Carried by search-none (Found).
-  -- Ruled out: a rule that refuses 412 beside 414; one that counts a direction inside a group.
-  pub request-2-alone : StandsAlone xs → totalAlone xs ≡ Pass
+  alone : StandsAlone xs → totalAlone xs ≡ Pass
   unfolding totalAlone direction
-  request-2-alone =
+  alone =
       ⊎-elim
       (λ n. rw (search-none xs 0 421 .1 n))
       (λ n. rw (search-none xs 0 412 .1 (n .0), search-none xs 0 414 .1 (n .1)) (none-beside (searched xs 0 421)))
 
   -- ---- in its place
 
-  module _ (c : List ℕ) (type provider total direction : ℕ) (b : TotalBeside c xs type provider total direction) where
-    alone : totalAlone xs ≡ memberFault 5008 (avpIn xs total)
-    alone = beside total direction (b .totalled) (b .directed)
-
-    volumed : volume xs (length c) ≡ Pass
-    unfolding volume
-    volumed = rw (search-first xs 0 421 total .1 (b .totalled))
-
-    first : firstRequest xs (length c) ≡ memberFault 5008 (avpIn xs total)
-    unfolding firstRequest
-    first = rw (search-first xs 10415 532 provider .1 (b .provided), volumed, alone)
-
-    exchanged : exchange c xs ≡ memberFault 5008 (avpIn xs total)
+  module _ (c : List ℕ) where
+    by-type : (value : ℕ) → RequestOfType c xs value → exchange c xs ≡ byRequestType xs (length c) value
     unfolding requestOutcome
-    exchanged = rw (b .request, search-first xs 10415 4203 type .1 (b .typed), b .first) first
+    by-type value r = rw (r .request, found (r .position, r .typed), r .valued)
 
-    -- 02 [2]: "A BTR with 4203 = 0 that has 421 together with 412 or 414 is refused at its 421 [...] 5008, right after the
-    -- check that a volume is present and before 4209". Whatever else it has or lacks, once its rows are met.
-    -- Carried by demand-2-first-fault (Order), search-first (Found).
-    -- Ruled out: a reader that asks for 4209 first; one that refuses at the direction's place or by its name.
-    pub request-2-beside : headerOutcome c ≡ Pass → walkOf c ≡ whole xs → ownRows c xs ≡ Pass → groupRows c xs ≡ Pass
-        → commandVerdict c ≡ verdict 5008 (placeOf (avpIn xs total)) 0 421
-    request-2-beside h w own groups =
-        demand-2-first-fault c .lists xs h w .rules _ own groups
-        (exchanged ∙ named-fault 5008 (avpIn xs total) (b .totalled .here))
+    module _ (i : ℕ) (b : TotalBeside c xs i) where
+      first-refused : firstRequest xs (length c) ≡ memberFault 5008 (avpIn xs i)
+      unfolding firstRequest
+      first-refused =
+          rw (required (length c) (b .provider), volumed (length c) (inl (i, b .total)), beside i (b .total) (b .beside))
+
+      -- 02 [2]: "A BTR with 4203 = 0 that has 421 together with 412 or 414 is refused at its 421 [...] 5008, right after
+      -- the check that a volume is present and before 4209". Whatever else it has or lacks, once its rows are met.
+      -- Carried by demand-2-first-fault (Order) and search-first (Found).
+      -- Ruled out: a reader that asks for 4209 first; one that refuses at the direction's place or by its name.
+      pub request-2-beside : headerOutcome c ≡ Pass → walkOf c ≡ whole xs → ownRows c xs ≡ Pass → groupRows c xs ≡ Pass
+          → commandVerdict c ≡ verdict 5008 (placeOf (avpIn xs i)) 0 421
+      request-2-beside h w own groups =
+          demand-2-first-fault c .lists xs h w .rules _ own groups
+          (by-type 0 (b .first) ∙ first-refused ∙ named-fault 5008 (avpIn xs i) (b .total .here))
+
+    -- 02 [2]: no other BTR with 4203 = 0 is refused for its volumes. One that has what the exchange rules ask for passes
+    -- them, if its total stands alone.
+    -- Carried by search-first and search-none (Found).
+    -- Ruled out: a rule that refuses 412 beside 414; one that counts a total or a direction inside a group.
+    pub request-2-first : CompleteFirst c xs → exchange c xs ≡ Pass
+    unfolding firstRequest
+    request-2-first f =
+        by-type 0 (f .first)
+        ∙ rw (required (length c) (f .provider), volumed (length c) (f .volume), alone (f .alone), required (length c) (f .number)) (required (length c) (f .window))
+
+    -- 02 [2]: the rule is for 4203 = 0 alone. With 4203 = 1 what has 4202, 4208 and 293 passes, whatever its volumes.
+    -- Carried by search-first (Found).
+    -- Ruled out: the rule for every request; a volume asked for with 4203 = 1.
+    pub request-2-later : CompleteLater c xs → exchange c xs ≡ Pass
+    unfolding laterRequest
+    request-2-later l =
+        by-type 1 (l .later)
+        ∙ rw (required (length c) (l .reference), required (length c) (l .policy)) (required (length c) (l .host))
