@@ -1,5 +1,5 @@
 //! Document 01's writer through the safe function: S written from its record and from a draft of other octets, what is
-//! written past the length, and each sort of refusal.
+//! written past the length, and each sort of refusal, request 2 of 02 among them.
 
 use commands::S;
 use talazumir::{read, write, Record, Verdict, Written, RECORD_NUMBERS};
@@ -77,4 +77,17 @@ fn refusals_leave_the_output() {
     let mut numbers = s_numbers();
     numbers[7 + 7 * 7 + 5] = 156;
     assert_eq!(refusal(numbers, &S, 160), refused(5004, 100, 10415, 4203));
+}
+
+#[test]
+fn a_total_beside_a_direction_is_refused() {
+    // On commands of a sample book. The first has 414 at 132 and, at 148 and position 10, 412, which becomes 421; the
+    // third has these octets.
+    const BOOK: &[u8] = include_bytes!("../../../books/volumes.ntb");
+    let (first, third) = (&BOOK[5..229], &BOOK[437..661]);
+    let mut numbers = *read(first).expect("two directions are accepted").numbers();
+    numbers[7 + 7 * 10 + 2] = 421;
+    let expected = refused(5008, 148, 0, 421);
+    assert_eq!(refusal(numbers, first, 224), expected);
+    assert_eq!(read(third).err(), Some(expected.verdict));
 }

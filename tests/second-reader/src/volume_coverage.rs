@@ -1,5 +1,5 @@
-//! Where the total volume (421) meets a direction (412, 414), request 2 of 02: by the order of the AVPs, among the
-//! rules before and behind it, and where it does not apply. A run that lacks a cell has tested less than it says.
+//! Where the total volume (421) stands beside a direction (412, 414), request 2 of 02: by the order of the AVPs, among
+//! the rules before and behind it, and where it does not apply. A run that lacks a cell has tested less than it says.
 
 use crate::dictionary::{Kind, Kinds, DIRECTIONS, VOLUMES};
 use crate::header;
@@ -40,8 +40,14 @@ pub enum Cell {
     RefusedTotalOf0,
     /// The same where the directions are 0.
     RefusedDirectionsOf0,
+    /// The same with another 421 in a group before the one at fault.
+    RefusedInnerBefore,
+    /// The same with another 421 in a group behind it.
+    RefusedInnerBehind,
     /// The fault of a row in a first request that has the total beside a direction.
     BehindRows,
+    /// 5009 of a volume in a first request that has the total beside a direction.
+    BehindRepetition,
     /// 5005 for 532 in a first request that has the total beside a direction.
     BehindAsp,
     /// Acceptance of a first request with the total, and a direction in a group alone.
@@ -62,8 +68,8 @@ impl Cell {
         use Cell::*;
         let mut cells: Vec<Cell> = ORDERS.map(Refused).into();
         cells.extend(LATER.map(|(number, kind)| RefusedBefore(number, kind)));
-        cells.extend([RefusedTotalOf0, RefusedDirectionsOf0, BehindRows, BehindAsp]);
-        cells.extend([DirectionInGroup, TotalInGroup, BothInGroups]);
+        cells.extend([RefusedTotalOf0, RefusedDirectionsOf0, RefusedInnerBefore, RefusedInnerBehind]);
+        cells.extend([BehindRows, BehindRepetition, BehindAsp, DirectionInGroup, TotalInGroup, BothInGroups]);
         cells.extend(ORDERS.map(ChosenPolicy));
         cells.push(Answer);
         cells
@@ -84,7 +90,7 @@ pub fn cells(octets: &[u8], verdict: &Verdict) -> Vec<Cell> {
     let request_type = (request && found.seen.has(TransferRequestType)).then_some(found.request_type);
     let accepted = *verdict == Verdict::ACCEPTED;
     match (request_type, order) {
-        (Some(0), Some(order)) => beside(order, &own, octets, &found, verdict),
+        (Some(0), Some(order)) => beside(order, (&own, &inner), octets, &found, verdict),
         (Some(0), None) => apart(&own_kinds, &inner_kinds, verdict).into_iter().collect(),
         (Some(_), Some(order)) if accepted => vec![Cell::ChosenPolicy(order)],
         (None, Some(_)) if accepted => vec![Cell::Answer],
@@ -92,8 +98,14 @@ pub fn cells(octets: &[u8], verdict: &Verdict) -> Vec<Cell> {
     }
 }
 
-/// The cells of a first request whose list has the volumes `own` in this order.
-fn beside(order: &'static [Kind], own: &[Avp], octets: &[u8], found: &Found, verdict: &Verdict) -> Vec<Cell> {
+/// The cells of a first request whose list has the volumes `own` in this order, and whose groups have `inner`.
+fn beside(
+    order: &'static [Kind],
+    (own, inner): (&[Avp], &[Avp]),
+    octets: &[u8],
+    found: &Found,
+    verdict: &Verdict,
+) -> Vec<Cell> {
     if found.row_fault == Some(*verdict) {
         return vec![Cell::BehindRows];
     }
@@ -109,14 +121,17 @@ fn beside(order: &'static [Kind], own: &[Avp], octets: &[u8], found: &Found, ver
         number::MISSING_AVP => !found.seen.has(kind),
         _ => found.window_fault.is_some(),
     };
+    let inner_totals = || inner.iter().filter(|avp| names(avp, CcTotalOctets)).map(|avp| avp.start);
     let mut cells = vec![Cell::Refused(order)];
+    cells.extend(inner_totals().any(|start| start < verdict.place).then_some(Cell::RefusedInnerBefore));
+    cells.extend(inner_totals().any(|start| start > verdict.place).then_some(Cell::RefusedInnerBehind));
     cells.extend(LATER.into_iter().filter(broken).map(|(number, kind)| Cell::RefusedBefore(number, kind)));
     cells.extend(total.into_iter().all(is_0).then_some(Cell::RefusedTotalOf0));
     cells.extend(directions.into_iter().all(is_0).then_some(Cell::RefusedDirectionsOf0));
     cells
 }
 
-/// The cell of a first request that has not the total beside a direction.
+/// The cell of a first request that has the total beside a direction with a repetition, or not at all.
 fn apart(own: &[Kind], inner: &[Kind], verdict: &Verdict) -> Option<Cell> {
     let has = |kinds: &[Kind]| {
         let kinds = Kinds::of(kinds);
@@ -124,6 +139,9 @@ fn apart(own: &[Kind], inner: &[Kind], verdict: &Verdict) -> Option<Cell> {
     };
     let accepted = *verdict == Verdict::ACCEPTED;
     match (has(own), has(inner)) {
+        ((true, true), _) if verdict.number == number::AVP_OCCURS_TOO_MANY_TIMES && is_volume(verdict) => {
+            Some(Cell::BehindRepetition)
+        }
         ((true, false), (_, true)) if accepted => Some(Cell::DirectionInGroup),
         ((false, true), (true, _)) if accepted => Some(Cell::TotalInGroup),
         ((false, false), (true, true)) if is(verdict, number::MISSING_AVP, CcOutputOctets) => Some(Cell::BothInGroups),
@@ -137,6 +155,10 @@ fn kinds(avps: &[Avp]) -> Vec<Kind> {
 
 fn names(avp: &Avp, kind: Kind) -> bool {
     (avp.vendor, avp.code) == (kind.vendor(), kind.code())
+}
+
+fn is_volume(verdict: &Verdict) -> bool {
+    VOLUMES.into_iter().any(|kind| is(verdict, verdict.number, kind))
 }
 
 fn is(verdict: &Verdict, number: u32, kind: Kind) -> bool {

@@ -338,6 +338,11 @@ fn total_and_direction_in_two_lists() {
         let inner = proxy(&[total.clone(), direction.clone()]);
         assert_eq!(judge_with(&volumeless(), from_ref(&inner)), (5005, 236 + 64, 0, 414));
         assert_eq!(judge_with(&volumeless(), &[inner, total.clone()]), (0, 0, 0, 0));
+        // The place is that of the command's own 421, also with another one in a group before it or behind it.
+        let inner = proxy(from_ref(&total));
+        let behind = [total.clone(), direction.clone(), inner.clone()];
+        assert_eq!(judge_with(&volumeless(), &behind), (5008, 236, 0, 421));
+        assert_eq!(judge_with(&volumeless(), &[inner, direction.clone(), total.clone()]), (5008, 300, 0, 421));
         // Failed-AVP is not looked into, and another vendor's 421 is another AVP.
         assert_eq!(judge_with(&volumeless(), &[direction.clone(), plain(279, &total)]), (0, 0, 0, 0));
         assert_eq!(judge_with(&volumeless(), &[direction.clone(), avp(TGPP, 421, 0, &[0; 8])]), (0, 0, 0, 0));

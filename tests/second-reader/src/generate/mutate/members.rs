@@ -139,8 +139,8 @@ pub fn outcome(tree: &mut Tree, prng: &mut Prng) {
     }
 }
 
-/// The total volume beside one direction or both, in any order; at times one or the other in groups alone, and at times
-/// with what the rules before and behind this one refuse.
+/// The total volume beside one direction or both, in any order; at times one or the other in groups alone, another
+/// total in a group, a repetition, and what the rules before and behind this one refuse.
 pub fn volumes(tree: &mut Tree, prng: &mut Prng) {
     tree.list.retain(|node| !is_volume(node));
     // With both directions there are six orders, with one there are two.
@@ -148,20 +148,26 @@ pub fn volumes(tree: &mut Tree, prng: &mut Prng) {
     for kinds in [&[CcTotalOctets], directions] {
         let within = prng.one_in(4);
         for &kind in kinds {
-            let node = volume(kind, within, prng);
-            // What stands first stays first.
-            let at = (1 + prng.below(tree.list.len())).min(tree.list.len());
-            tree.list.insert(at, node);
+            add_volume(tree, kind, within, prng);
         }
     }
-    match prng.below(9) {
+    match prng.below(12) {
         0..=2 => {
             let gone = prng.pick(&[ApplicationServiceProviderIdentity, NumberOfUes, TimeWindow]);
             tree.list.retain(|node| !node.is(gone));
         }
         3 => window(tree, prng),
+        4..=5 => add_volume(tree, CcTotalOctets, true, prng),
+        6 => add_volume(tree, prng.pick(&VOLUMES), false, prng),
         _ => {}
     }
+}
+
+/// Adds a volume, itself or in groups, behind what stands first.
+fn add_volume(tree: &mut Tree, kind: Kind, within: bool, prng: &mut Prng) {
+    let node = volume(kind, within, prng);
+    let at = (1 + prng.below(tree.list.len())).min(tree.list.len());
+    tree.list.insert(at, node);
 }
 
 /// A volume, at times of 0: itself, or within one to three groups.
