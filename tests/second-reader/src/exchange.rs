@@ -1,28 +1,31 @@
 //! The exchange rules of clause 4.4.1, request 2 of 02 among them, on the command's own list, and the windows.
 
+use crate::avp::AvpHeader;
 use crate::dictionary::{Kind, Kinds, DIRECTIONS};
+use crate::header::HEADER;
 use crate::rows::missing;
 use crate::verdict::{number, Verdict};
 use crate::walk::Found;
 
-/// Checks a command whose rows are met; its list ends at `end`.
-pub fn check(request: bool, found: &Found, end: usize) -> Result<(), Verdict> {
+/// Checks the command that fills `octets` and whose rows are met.
+pub fn check(request: bool, found: &Found, octets: &[u8]) -> Result<(), Verdict> {
+    let end = octets.len();
     match (request, found.request_type) {
         (false, _) => answer(found, end)?,
-        (true, 0) => new_transfer(found, end)?,
+        (true, 0) => new_transfer(found.seen, octets)?,
         (true, _) => chosen_policy(found.seen, end)?,
     }
     found.window_fault.map_or(Ok(()), Err)
 }
 
 /// A request for policies (Transfer-Request-Type 0).
-fn new_transfer(found: &Found, end: usize) -> Result<(), Verdict> {
+fn new_transfer(seen: Kinds, octets: &[u8]) -> Result<(), Verdict> {
     const DIRECTION: Kinds = Kinds::of(&DIRECTIONS);
-    let seen = found.seen;
+    let end = octets.len();
     need(seen, Kind::ApplicationServiceProviderIdentity, end)?;
     match (seen.has_any(DIRECTION), seen.has(Kind::CcTotalOctets)) {
         (false, false) => return Err(missing(Kind::CcOutputOctets, end)),
-        (true, true) => return Err(not_allowed(Kind::CcTotalOctets, found.total_octets)),
+        (true, true) => return Err(not_allowed(Kind::CcTotalOctets, place(octets, Kind::CcTotalOctets))),
         _ => {}
     }
     need(seen, Kind::NumberOfUes, end)?;
@@ -55,6 +58,19 @@ fn answer(found: &Found, end: usize) -> Result<(), Verdict> {
 /// 5008 for the AVP at `place`, which another one of its list excludes.
 fn not_allowed(kind: Kind, place: usize) -> Verdict {
     Verdict::named(number::AVP_NOT_ALLOWED, place, kind.vendor(), kind.code())
+}
+
+/// The place of the first AVP of a kind in the list of a walked command; its end if there is none.
+#[cold]
+fn place(octets: &[u8], kind: Kind) -> usize {
+    let mut at = HEADER;
+    while let Ok(header) = AvpHeader::read(&octets[at..], at) {
+        if Kind::of(header.vendor, header.code) == Some(kind) {
+            break;
+        }
+        at += header.padded();
+    }
+    at
 }
 
 fn need(seen: Kinds, kind: Kind, end: usize) -> Result<(), Verdict> {

@@ -93,6 +93,6 @@ fn judge(octets: &[u8], keep: &mut impl Keep) -> Result<Header, Verdict> {
     if let Some(fault) = found.row_fault {
         return Err(fault);
     }
-    exchange::check(header.r, &found, octets.len())?;
+    exchange::check(header.r, &found, octets)?;
     Ok(header)
 }

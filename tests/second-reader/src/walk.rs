@@ -57,8 +57,6 @@ pub struct Found {
     pub request_type: u32,
     /// Place of Experimental-Result in the command's list.
     pub experimental_result: usize,
-    /// Place of CC-Total-Octets in the command's list.
-    pub total_octets: usize,
     /// The known AVPs of the command's list.
     pub seen: Kinds,
 }
@@ -145,7 +143,6 @@ impl<K: Keep> Walk<'_, K> {
                     }
                 }
                 Form::Eight if end - start != 8 => return refuse(number::INVALID_AVP_LENGTH),
-                Form::Eight if kind == Kind::CcTotalOctets && depth == 1 => self.found.total_octets = at,
                 Form::Group if depth == DEEPEST => return refuse(number::GROUP_TOO_DEEP),
                 Form::Eight | Form::Octets | Form::Group => {}
             }
