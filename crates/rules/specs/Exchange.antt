@@ -40,8 +40,8 @@ direction xs = firstFound (search xs 0 412) (search xs 0 414)
 unfoldable pub volume : List Avp → ℕ → Outcome
 volume xs end = present end 0 414 (firstFound (search xs 0 421) (direction xs))
 
--- an AVP, the first argument's, that is not allowed beside another: where both were found, 5008 at it, wherever the
--- other stands
+-- where two searches both found an AVP, the first one's is not allowed beside the other's: 5008 at the first one's,
+-- wherever the other stands
 abbrev pub notBeside : List Avp → Found → Found → Outcome
 notBeside xs (At i) (At j) = memberFault 5008 (avpIn xs i)
 notBeside xs (At i) Nothing = Pass
