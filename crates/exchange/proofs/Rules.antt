@@ -59,7 +59,8 @@ module _ (xs : List Avp) (end : ℕ) where
     unfolding volume totalAlone
     total-beside j d = rw (e, d)
 
-  pub first-order : orElse (require xs end 10415 532) (orElse volumes (orElse (require xs end 10415 4209) (require xs end 10415 4204)))
+  pub first-order : orElse (require xs end 10415 532)
+      (orElse volumes (orElse (require xs end 10415 4209) (require xs end 10415 4204)))
       ≡ firstRequest xs end
   unfolding firstRequest
   first-order = ap (orElse (require xs end 10415 532)) (or-assoc (volume xs end) (totalAlone xs) _)

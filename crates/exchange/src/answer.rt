@@ -10,10 +10,10 @@ use crate::search::end_at;
 use crate::search::first;
 use crate::search::is_at;
 use crate::search::member;
+use crate::search::present;
 use crate::search::require;
 use crate::search::search;
 use avp::member_fault;
-use avp::refusal;
 use rules::Found;
 use rules::Outcome;
 use rules::kinds::ExperimentalResult;
@@ -75,10 +75,8 @@ fn held(log: &[u32; limits::LOG_NUMBERS], i: usize, count: usize, vendor: u32, c
     requires { ⌜ Position i count ⌝ }
     ensures { λ r. ⌜ r ≡ heldBy (avpsIn (now (log .entry)) count) i vendor code ⌝ }
 {
-    let Found::At(_) = member(log, i, count, 2, vendor, code) else {
-        return refusal(5005, end_at(log, i, count), vendor, code);
-    };
-    Outcome::Pass
+    let found = member(log, i, count, 2, vendor, code);
+    present(found, end_at(log, i, count), vendor, code)
 }
 
 fn policy_outcome(log: &[u32; limits::LOG_NUMBERS], i: usize, count: usize) -> Outcome

@@ -38,8 +38,8 @@ fn direction(log: &[u32; limits::LOG_NUMBERS], count: usize) -> Found
     input
 }
 
-// One of three is enough; where none is there, CC-Output-Octets is missing. Request [2]: the total is not allowed beside
-// a direction.
+// One of three is enough; where none is there, CC-Output-Octets is missing. Request [2]: the total is not allowed
+// beside a direction.
 fn volumes(log: &[u32; limits::LOG_NUMBERS], count: usize, end: u32) -> Outcome
     requires { ⌜ count ≤ mostAvps ⌝ }
     ensures { λ r. ⌜ r ≡ orElse (volume (avpsIn (now (log .entry)) count) end) (totalAlone (avpsIn (now (log .entry)) count)) ⌝ }

@@ -139,7 +139,8 @@ answerBegins =
     ++ avp 296 0x40 9 (letter 0x72)
 
 -- further cases: 01's S with 4203 = 2 and its windows; an accepted first request, one without a volume, and an accepted
--- answer; an answer without a result and one with both; rows missing, not admitted and exceeded, in the command's own list and in a group
+-- answer; an answer without a result and one with both; rows missing, not admitted and exceeded, in the command's own
+-- list and in a group
 unfoldable pub further : List Case
 further =
     case (requestHeader 160 ++ sBegins vendorId 20 ++ sGoesOn 2 ++ sEnds) 5004 100 vendor3GPP 4203
@@ -157,8 +158,8 @@ further =
     ∷ case (requestHeader 172 ++ sFront ++ sEnds ++ avp 264 0x40 9 (letter 0x68)) 5009 160 0 264
     ∷ []
 
--- request [2]: 421 behind 414; 421 before 412; with both, 532 missing, which is asked for before, and 4209 missing, which
--- is asked for later; 414 in a group; all three with 4203 = 1; an answer
+-- request [2]: 421 behind 414; 421 before 412; 421 behind 414 with 532 missing, which is asked for before, and with 4209
+-- missing, which is asked for later; 414 in a group; all three with 4203 = 1; an answer
 unfoldable pub totals : List Case
 totals =
     case (firstRequestOf 224 (provider ++ volumeOf 414 ++ volumeOf 421 ++ numberOfUes) 11) 5008 148 0 421

@@ -15,7 +15,7 @@ use Rattle.rules.specs.Avp.{placeOf}
 use Rattle.rules.specs.Walk.{whole}
 use Rattle.rules.specs.RowChecks.{memberFault}
 use Rattle.rules.specs.Search.{avpIn, search as searched, FirstAvp, Stands}
-use Rattle.rules.specs.Exchange.{present, require, firstFound, direction, volume, notBeside, totalAlone, firstRequest, laterRequest, byRequestType, requestOutcome}
+use Rattle.rules.specs.Exchange.{require, firstFound, direction, volume, notBeside, totalAlone, firstRequest, laterRequest, byRequestType, requestOutcome}
 use Rattle.rules.specs.Command.{walkOf, commandVerdict}
 use Rattle.rules.specs.Order.{ownRows, groupRows, exchange}
 use Rattle.rules.specs.Volumes.{Has, HasDirection, StandsAlone, RequestOfType, TotalBeside, CompleteFirst, CompleteLater}
@@ -26,7 +26,8 @@ use Rattle.rules.proofs.demands.Order.{demand-2-first-fault}
 named-fault : (number : ℕ) (a : Avp) {depth vendor code : ℕ} → Stands a depth vendor code
     → memberFault number a ≡ refused number (placeOf a) vendor code
 named-fault number a n =
-    ap (λ (v : ℕ). refused number (placeOf a) v (a .code)) (n .vendor-is) ∙ ap (refused number (placeOf a) _) (n .code-is)
+    ap (λ (v : ℕ). refused number (placeOf a) v (a .code)) (n .vendor-is)
+    ∙ ap (refused number (placeOf a) _) (n .code-is)
 
 module _ (xs : List Avp) where
   -- ---- what is there is found
@@ -83,10 +84,11 @@ module _ (xs : List Avp) where
       first-refused : firstRequest xs (length c) ≡ memberFault 5008 (avpIn xs i)
       unfolding firstRequest
       first-refused =
-          rw (required (length c) (b .provider), volumed (length c) (inl (i, b .total)), beside i (b .total) (b .beside))
+          let end = length c in
+          rw (required end (b .provider), volumed end (inl (i, b .total)), beside i (b .total) (b .beside))
 
-      -- 02 [2]: "A BTR with 4203 = 0 that has 421 together with 412 or 414 is refused at its 421 [...] 5008, right after
-      -- the check that a volume is present and before 4209". Whatever else it has or lacks, once its rows are met.
+      -- 02 [2]: "A BTR with 4203 = 0 that has 421 together with 412 or 414 is refused at its 421 [...] 5008, right
+      -- after the check that a volume is present and before 4209". Whatever else it has or lacks, once its rows are met.
       -- Carried by demand-2-first-fault (Order) and search-first (Found).
       -- Ruled out: a reader that asks for 4209 first; one that refuses at the direction's place or by its name.
       pub request-2-beside : headerOutcome c ≡ Pass → walkOf c ≡ whole xs → ownRows c xs ≡ Pass → groupRows c xs ≡ Pass
@@ -95,15 +97,17 @@ module _ (xs : List Avp) where
           demand-2-first-fault c .lists xs h w .rules _ own groups
           (by-type 0 (b .first) ∙ first-refused ∙ named-fault 5008 (avpIn xs i) (b .total .here))
 
-    -- 02 [2]: no other BTR with 4203 = 0 is refused for its volumes. One that has what the exchange rules ask for passes
-    -- them, if its total stands alone.
+    -- 02 [2]: no other BTR with 4203 = 0 is refused for its volumes. One that has what the exchange rules ask for
+    -- passes them, if its total stands alone.
     -- Carried by search-first and search-none (Found).
     -- Ruled out: a rule that refuses 412 beside 414; one that counts a total or a direction inside a group.
     pub request-2-first : CompleteFirst c xs → exchange c xs ≡ Pass
     unfolding firstRequest
     request-2-first f =
+        let end = length c in
         by-type 0 (f .first)
-        ∙ rw (required (length c) (f .provider), volumed (length c) (f .volume), alone (f .alone), required (length c) (f .number)) (required (length c) (f .window))
+        ∙ rw (required end (f .provider), volumed end (f .volume), alone (f .alone), required end (f .number))
+        (required end (f .window))
 
     -- 02 [2]: the rule is for 4203 = 0 alone. With 4203 = 1 what has 4202, 4208 and 293 passes, whatever its volumes.
     -- Carried by search-first (Found).
@@ -111,5 +115,5 @@ module _ (xs : List Avp) where
     pub request-2-later : CompleteLater c xs → exchange c xs ≡ Pass
     unfolding laterRequest
     request-2-later l =
-        by-type 1 (l .later)
-        ∙ rw (required (length c) (l .reference), required (length c) (l .policy)) (required (length c) (l .host))
+        let end = length c in
+        by-type 1 (l .later) ∙ rw (required end (l .reference), required end (l .policy)) (required end (l .host))

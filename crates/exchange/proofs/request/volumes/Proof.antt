@@ -57,7 +57,9 @@ returns-3 c =
     let at = avps-at (s .args .log .now) (s .args .count) _ (s .pre) (f .search .ensures .used _ (k .i .given .1)) in
     let total = sym (f .search .ensures .is) ∙ k .i .given .1 in
     let direction = sym (f .before .direction .ensures) ∙ h .enum-told2 .given .1 in
-    c .member-fault .ensures .is ∙ ap (memberFault 5008) (c .before .get .ensures ∙ sym at) ∙ total-beside _ _ _ total _ direction
+    c .member-fault .ensures .is
+    ∙ ap (memberFault 5008) (c .before .get .ensures ∙ sym at)
+    ∙ total-beside _ _ _ total _ direction
 
 pub volumes-spec : {M : Type 1} → statement M
 volumes-spec =
