@@ -1,7 +1,7 @@
 // 01, Exchange rules: each time window of the walk, at any depth.
 ghost use mathlib.Core.Path.{_≡_};
 ghost use Prim.Native.Nat.{_≤_};
-ghost use Rattle.rules.specs.Exchange.{isBefore, windowOutcome, eachWindow};
+ghost use Rattle.rules.specs.Exchange.{windowOutcome, eachWindow};
 ghost use Rattle.rules.specs.Walk.{mostAvps};
 ghost use Rattle.log.specs.Log.{avpOf, avpsIn};
 ghost use Rattle.rules.specs.Exchange.{timesBy, windowAt};
@@ -18,15 +18,9 @@ use rules::kinds::TimeWindow;
 use rules::kinds::TransferEndTime;
 use rules::kinds::TransferStartTime;
 use rules::limits;
+use times::is_before;
 
-// The order of two times.
-fn is_before(start: u32, end: u32) -> bool
-    ensures { λ r. ⌜ r ≡ isBefore start end ⌝ }
-{
-    start < end
-}
-
-// A window by the positions of its start and end: the end is greater than the start.
+// A window by the positions of its start and end: the start is before the end.
 fn times_by(
     s: &[u8],
     log: &[u32; limits::LOG_NUMBERS],

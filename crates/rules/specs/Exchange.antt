@@ -5,7 +5,7 @@ use Prim.Native.Nat.{ℕ, _+_}
 use mathlib.Core.List.{List, [], _∷_}
 use mathlib.Core.Bool.{Bool, cond}
 use lib.ListN.{drop}
-use lib.Dec.{ltb, eqb}
+use lib.Dec.{eqb}
 use Rattle.rules.specs.declared.Avp.{Avp}
 use Rattle.rules.specs.declared.Outcome.{Outcome}
 use Rattle.rules.specs.declared.Outcome.the-variants.{Pass}
@@ -16,6 +16,7 @@ use Rattle.rules.specs.Verdict.{refused, orElse}
 use Rattle.rules.specs.Header.{vendor3GPP}
 use Rattle.rules.specs.Avp.{named, endOf}
 use Rattle.rules.specs.RowChecks.{memberFault}
+use Rattle.rules.specs.Times.{isBefore}
 use Rattle.rules.specs.Search.{avpIn, isAt, firstFrom, search, member}
 
 -- a search that found nothing is 5005 at the end of the list that lacks the AVP
@@ -126,11 +127,7 @@ eachPolicy xs i (a ∷ rest) =
 unfoldable pub answerOutcome : List Avp → ℕ → Outcome
 answerOutcome xs end = orElse (resultOutcome xs end) (orElse (policiesOutcome xs end) (eachPolicy xs 0 xs))
 
--- the order of two times: both are read as unsigned numbers
-abbrev pub isBefore : ℕ → ℕ → Bool
-isBefore = ltb
-
--- a window whose 4206 and 4205 stand at positions i and j: the end is greater than the start, else 5004 at 4205
+-- a window whose 4206 and 4205 stand at positions i and j: the start is before the end, else 5004 at 4205
 abbrev pub timesBy : List Avp → List ℕ → ℕ → ℕ → Outcome
 timesBy xs s i j =
     cond (isBefore (numberAt 4 s (avpIn xs i .start)) (numberAt 4 s (avpIn xs j .start))) Pass (memberFault 5004 (avpIn xs j))

@@ -11,6 +11,8 @@ pub mod Rows
 -- Order of checks: the header's stand in Header; walk, rows and exchange rules, and all of them in order
 pub mod Walk
 pub mod RowChecks
+-- the order of two times
+pub mod Times
 pub mod Exchange
 pub mod Command
 -- What comes back
