@@ -81,18 +81,34 @@ pub(crate) fn policies() {
     );
 }
 
-// Each 4204 of the walk: the end is greater than the start, both read as unsigned numbers; else 5004 at 4205.
+// Each 4204 of the walk: the start is before the end; else 5004 at 4205. From 2147483648 to 4294967295 times count from
+// 1900, from 0 to 2147483647 from 7 February 2036. In the answer, and where a 4204 stands in 284, by raw numbers the
+// first window would be at fault.
 pub(crate) fn windows() {
     case::each(
         Start::BegunAnswer,
-        b"window_in_4207 M268=2001 VM4202:72 VM4207(VM4208=1 VM4204(VM4206=10 VM4205=10) M432=1)",
+        b"window_in_4207 M268=2001 VM4202:72 VM4207(VM4208=1 VM4204(VM4206=10 VM4205=10) M432=1)
+        second_window_in_4207 M268=2001 VM4202:72 V2207:61 VM4207(VM4208=1 VM4204(VM4206=4294967295 VM4205=0) M432=1) VM4207(VM4208=2 VM4204(VM4206=0 VM4205=4294967295) M432=1)",
     );
     case::each(
         Start::S,
         b"window_11_to_10 VM4204(VM4206=11 VM4205=10)
-        window_1_to_4294967295 VM4204(VM4206=1 VM4205=4294967295)
         4205_before_4206 VM4204(VM4205=10 VM4206=10)
-        window_in_284 M284(M280:68 M33:73 VM4204(VM4206=10 VM4205=10))",
+        window_in_284 M284(M280:68 M33:73 VM4204(VM4206=10 VM4205=10))
+        window_of_7_february_2036 VM4204(VM4206=4294944000 VM4205=63104)
+        window_over_the_turn VM4204(VM4206=4294967295 VM4205=0)
+        window_back_over_the_turn VM4204(VM4206=0 VM4205=4294967295)
+        window_1_to_4294967295 VM4204(VM4206=1 VM4205=4294967295)
+        window_before_the_turn VM4204(VM4206=4294967294 VM4205=4294967295)
+        window_back_before_the_turn VM4204(VM4206=4294967295 VM4205=4294967294)
+        window_of_half_the_range VM4204(VM4206=2147483648 VM4205=0)
+        window_back_by_half_the_range VM4204(VM4206=0 VM4205=2147483648)
+        window_of_the_whole_range VM4204(VM4206=2147483648 VM4205=2147483647)
+        window_back_by_the_whole_range VM4204(VM4206=2147483647 VM4205=2147483648)
+        window_0_to_0 VM4204(VM4206=0 VM4205=0)
+        window_4294967295_to_4294967295 VM4204(VM4206=4294967295 VM4205=4294967295)
+        second_window_in_284 VM4204(VM4206=4294967295 VM4205=0) M284(M280:68 M33:73 VM4204(VM4206=0 VM4205=4294967295))
+        both_windows VM4204(VM4206=0 VM4205=4294967295) M284(M280:68 M33:73 VM4204(VM4206=10 VM4205=10))",
     );
     // The rule stands last: 4209 is missing too.
     case::each(

@@ -2,6 +2,7 @@
 -- computed: the writer's drafts and octets at the edges
 pub mod WriterEdges
 pub mod Octets
+pub mod Differences
 pub mod Tests
 pub mod Outcomes
 pub mod Fields

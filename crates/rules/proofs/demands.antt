@@ -26,6 +26,9 @@ pub mod States
 pub mod Found
 -- request [2]: total volume beside a direction
 pub mod Volumes
+-- request [5]: times and windows
+pub mod Times
+pub mod Windows
 -- what a listing tells of a book
 pub mod Listings
 pub mod Examples

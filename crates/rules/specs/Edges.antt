@@ -5,7 +5,9 @@ use mathlib.Core.Path.{_≡_, refl}
 use Prim.Native.Nat.{ℕ}
 use Prim.Native.String.{String}
 use mathlib.Core.List.{List, [], _∷_, _++_, map}
+use lib.IntN.{ℤ, pos, negℤ}
 use lib.ListN.{take, replicate}
+use lib.Signed.{ltZ}
 use Rattle.rules.specs.declared.Verdict.{Verdict}
 use Rattle.rules.specs.Octets.{numberAt, padded, octets}
 use Rattle.rules.specs.Text.{text}
@@ -17,7 +19,7 @@ use Rattle.rules.specs.Dictionary.{dictionary, find}
 use Rattle.rules.specs.Walk.{framing, wrongFlags, unsupported, wrongWidth, wrongValue, tooDeep, contents, checked, walkAvp, walkList}
 use Rattle.rules.specs.RowChecks.{admissionFrom, memberOutcome, missingFrom, membersOutcome, membersAt, groupsOutcome, rowsOutcome}
 use Rattle.rules.specs.Search.{firstFrom}
-use Rattle.rules.specs.Times.{isBefore}
+use Rattle.rules.specs.Times.{moment, isBefore, seconds}
 use Rattle.rules.specs.Exchange.{direction, volume, totalAlone, firstRequest, laterRequest, requestOutcome, resultOutcome, policiesOutcome, policyOutcome, eachPolicy, answerOutcome, windowOutcome, eachWindow, exchangeOutcome}
 use Rattle.rules.specs.Command.{walkOf, listsOutcome, commandOutcome, commandVerdict}
 use Rattle.rules.specs.Lines.{digits}
@@ -117,6 +119,11 @@ numberOfUes = avpOf3GPP 4209 0xC0 16 (octets 4 3)
 unfoldable pub volumeOf : ℕ → List ℕ
 volumeOf code = avp code 0x40 16 (octets 8 1000)
 
+-- a window of these times
+unfoldable pub windowOf : ℕ → ℕ → List ℕ
+windowOf start end =
+    avpOf3GPP 4204 0xC0 44 (avpOf3GPP 4206 0xC0 16 (octets 4 start) ++ avpOf3GPP 4205 0xC0 16 (octets 4 end))
+
 -- a first request, 4203 = 0, of this length: these AVPs, which stand at 116, and a window from 10 to this time
 unfoldable pub firstRequestOf : ℕ → List ℕ → ℕ → List ℕ
 firstRequestOf length avps end =
@@ -124,7 +131,7 @@ firstRequestOf length avps end =
     ++ sBegins vendorId 20
     ++ avpOf3GPP 4203 0xC0 16 (octets 4 0)
     ++ avps
-    ++ avpOf3GPP 4204 0xC0 44 (avpOf3GPP 4206 0xC0 16 (octets 4 10) ++ avpOf3GPP 4205 0xC0 16 (octets 4 end))
+    ++ windowOf 10 end
 
 -- with one volume
 abbrev pub firstRequestTo : ℕ → List ℕ
@@ -171,6 +178,36 @@ totals =
     ++ avp 284 0x40 48 (avp 280 0x40 9 (letter 0x68) ++ avp 33 0x40 9 (letter 0x73) ++ volumeOf 414)) 11) 0 0 0 0
     ∷ case (requestHeader 208 ++ sFront ++ sEnds ++ volumeOf 412 ++ volumeOf 414 ++ volumeOf 421) 0 0 0 0
     ∷ case (answerHeader 132 ++ answerBegins ++ avp 268 0x40 12 (octets 4 2001) ++ volumeOf 414 ++ volumeOf 421) 0 0 0 0
+    ∷ []
+
+-- request [5]: S with a window of 7 February 2036, from midnight to midnight, and with its reverse; with a window over
+-- the turn and, in a group, one back over it
+unfoldable pub windowed : List Case
+windowed =
+    case (requestHeader 204 ++ sFront ++ sEnds ++ windowOf 4294944000 63104) 0 0 0 0
+    ∷ case (requestHeader 204 ++ sFront ++ sEnds ++ windowOf 63104 4294944000) 5004 188 vendor3GPP 4205
+    ∷ case (requestHeader 280 ++ sFront ++ sEnds ++ windowOf 4294967295 0
+    ++ avp 284 0x40 76 (avp 280 0x40 9 (letter 0x68) ++ avp 33 0x40 9 (letter 0x73) ++ windowOf 0 4294967295)) 5004 264 vendor3GPP 4205
+    ∷ []
+
+-- and two Time values with the seconds from the first to the second
+pub record Span : Type 0 where
+  pub start : ℕ
+  pub end : ℕ
+  pub number : ℤ
+
+unfoldable pub span : ℕ → ℕ → ℤ → Span
+span start end number = record { start = start; end = end; number = number }
+
+-- 02's two figures; the whole range; 7 February 2036 and its reverse; equal ones
+unfoldable pub spans : List Span
+spans =
+    span 4294967295 0 (pos 1)
+    ∷ span 2147483647 2147483648 (negℤ (pos 4294967295))
+    ∷ span 2147483648 2147483647 (pos 4294967295)
+    ∷ span 4294944000 63104 (pos 86400)
+    ∷ span 63104 4294944000 (negℤ (pos 86400))
+    ∷ span 0 0 (pos 0)
     ∷ []
 
 -- the answers that cases have, and those that the definitions give
@@ -230,9 +267,10 @@ listings bs = map (λ b. listing (b .octets)) bs
 
 -- all of it, computed
 computed : (verdicts cases ≡ answers cases) × (verdicts further ≡ answers further) × (verdicts totals ≡ answers totals)
+    × (verdicts windowed ≡ answers windowed)
     × (listing book ≡ bookListing) × (listings furtherBooks ≡ expected furtherBooks)
-unfolding headOfBook bookCase furtherBooks expected listings verdicts answers cases case header h avp avpOf3GPP sBegins vendorId sGoesOn sEnds sFront s further totals provider numberOfUes volumeOf firstRequestOf answerBegins book bookListing octets numberAt padded lengthOutcome applicationOutcome flagsOutcome headerOutcome avpAt rowsOf admitsOthers dictionary find framing wrongFlags unsupported wrongWidth wrongValue tooDeep contents checked walkAvp walkList admissionFrom memberOutcome missingFrom membersOutcome membersAt groupsOutcome rowsOutcome firstFrom direction volume totalAlone firstRequest laterRequest requestOutcome resultOutcome policiesOutcome policyOutcome eachPolicy answerOutcome isBefore windowOutcome eachWindow exchangeOutcome walkOf listsOutcome commandOutcome commandVerdict digits isCut linesFrom isBook listing
-computed = (refl, refl, refl, refl, refl)
+unfolding headOfBook bookCase furtherBooks expected listings verdicts answers cases case header h avp avpOf3GPP sBegins vendorId sGoesOn sEnds sFront s further totals windowed windowOf provider numberOfUes volumeOf firstRequestOf answerBegins book bookListing octets numberAt padded lengthOutcome applicationOutcome flagsOutcome headerOutcome avpAt rowsOf admitsOthers dictionary find framing wrongFlags unsupported wrongWidth wrongValue tooDeep contents checked walkAvp walkList admissionFrom memberOutcome missingFrom membersOutcome membersAt groupsOutcome rowsOutcome firstFrom direction volume totalAlone firstRequest laterRequest requestOutcome resultOutcome policiesOutcome policyOutcome eachPolicy answerOutcome moment isBefore windowOutcome eachWindow exchangeOutcome walkOf listsOutcome commandOutcome commandVerdict digits isCut linesFrom isBook listing
+computed = (refl, refl, refl, refl, refl, refl)
 
 -- each marked case has its answer
 pub edges : verdicts cases ≡ answers cases
@@ -246,10 +284,23 @@ further-edges = computed .1
 pub total-edges : verdicts totals ≡ answers totals
 total-edges = computed .2
 
+-- and each case of request [5]
+pub window-edges : verdicts windowed ≡ answers windowed
+window-edges = computed .3
+
+pub span-edges : map (λ (s : Span). seconds (s .start) (s .end)) spans ≡ map (λ (s : Span). s .number) spans
+unfolding spans span seconds moment
+span-edges = refl
+
+-- and a window of two of them is right exactly where that is above 0
+pub right-spans : map (λ (s : Span). isBefore (s .start) (s .end)) spans ≡ map (λ (s : Span). ltZ (pos 0) (s .number)) spans
+unfolding spans span isBefore moment
+right-spans = refl
+
 -- and the book its listing
 pub worked-book : listing book ≡ bookListing
-worked-book = computed .3
+worked-book = computed .4
 
 -- and each further book
 pub further-books : listings furtherBooks ≡ expected furtherBooks
-further-books = computed .4
+further-books = computed .5

@@ -8,10 +8,10 @@ pub mod Header
 pub mod Avp
 pub mod Dictionary
 pub mod Rows
--- Order of checks: the header's stand in Header; walk, rows and exchange rules, and all of them in order
+-- Order of checks: the header's stand in Header; walk, rows, exchange rules with the order of times, and all of them in
+-- order
 pub mod Walk
 pub mod RowChecks
--- the order of two times
 pub mod Times
 pub mod Exchange
 pub mod Command
@@ -29,8 +29,9 @@ pub mod Agreement
 pub mod Calls
 pub mod Demands
 pub mod Order
--- and what request [2] claims of the volumes in a request
+-- and what request [2] claims of the volumes in a request, and request [5] of the windows
 pub mod Volumes
+pub mod Windows
 -- beyond 01: the canonical form of a command, which names a state
 pub mod Canonical
 -- The book and its listing: the lines, and the whole

@@ -1,8 +1,30 @@
--- 01, Exchange rules: the order of two times.
-use Prim.Native.Nat.{ℕ}
-use mathlib.Core.Bool.{Bool}
+-- Time values (RFC 6733, clause 4.3.1) as request [5] has them: seconds in 32 bits, of which the upper half counts from
+-- 1900 and the lower half from 7 February 2036. Their order, and the number of seconds from one to another.
+use Prim.Native.Nat.{ℕ, _+_, _%_, _^_}
+use mathlib.Core.Bool.{Bool, cond}
 use lib.Dec.{ltb}
+use lib.IntN.{ℤ, pos, _-ℤ_}
 
--- "both read as unsigned numbers"
+-- half of the values that a Time has
+abbrev pub halfRange : ℕ
+halfRange = 2147483648
+
+-- the moment that a Time says, in seconds from the earliest, 20 January 1968, 03:14:08 UTC: "the count with
+-- 2,147,483,648 added and the carry dropped"
+unfoldable pub moment : ℕ → ℕ
+moment time = (time + halfRange) % 2 ^ 32
+
+-- the order of two times
 unfoldable pub isBefore : ℕ → ℕ → Bool
-isBefore start end = ltb start end
+isBefore start end = ltb (moment start) (moment end)
+
+-- "the signed number of seconds from start to end"
+unfoldable pub seconds : ℕ → ℕ → ℤ
+seconds start end = pos (moment end) -ℤ pos (moment start)
+
+-- ---- what is claimed (proofs/demands/Times)
+
+-- the seconds from 1 January 1900 to the moment of a Time: "by its extension a value with the top bit clear counts from
+-- 7 February 2036, 06:28:16 UTC", which is 2 ^ 32 seconds later
+abbrev pub since1900 : ℕ → ℕ
+since1900 time = cond (ltb time halfRange) (time + 2 ^ 32) time

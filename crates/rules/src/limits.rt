@@ -38,3 +38,6 @@ pub const LISTING_ROOM: usize = 262144;
 
 // The room in which every line fits, also with numbers of 64 bits.
 pub const LINE_ROOM: usize = 96;
+
+// Half of the values that a Time has (request [5]).
+pub const HALF_RANGE: u32 = 2147483648;

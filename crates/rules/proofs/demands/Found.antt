@@ -125,13 +125,13 @@ module _ (floor depth vendor code : ℕ) where
 -- ---- the search
 
 module _ (a : Avp) (depth vendor code : ℕ) where
-  stands : isAt a depth vendor code ≡ true → Stands a depth vendor code
+  pub stands : isAt a depth vendor code ≡ true → Stands a depth vendor code
   stands e =
       let x = and-true (eqb (a .depth) depth) (named a vendor code) e in
       let y = and-true (eqb (a .vendor) vendor) (eqb (a .code) code) (x .1) in
       record { depth-is = eqb-true _ _ (x .0); vendor-is = eqb-true _ _ (y .0); code-is = eqb-true _ _ (y .1) }
 
-  is-at : Stands a depth vendor code → isAt a depth vendor code ≡ true
+  pub is-at : Stands a depth vendor code → isAt a depth vendor code ≡ true
   is-at s =
       rw (
         eq-eqb (a .depth) depth (s .depth-is),
@@ -142,7 +142,7 @@ module _ (a : Avp) (depth vendor code : ℕ) where
   not-stands : isAt a depth vendor code ≡ false → Stands a depth vendor code → ⊥
   not-stands e s = not-both (isAt a depth vendor code) (is-at s) e
 
-  not-at : (Stands a depth vendor code → ⊥) → isAt a depth vendor code ≡ false
+  pub not-at : (Stands a depth vendor code → ⊥) → isAt a depth vendor code ≡ false
   not-at n = by-cases (isAt a depth vendor code) (λ h. absurd (n (stands h))) (λ h. h)
 
 -- "A search gives the first AVP at depth 1 with a vendor and code, as its position".

@@ -23,7 +23,7 @@ use Rattle.rules.proofs.demands.Found.{search-first, search-none}
 use Rattle.rules.proofs.demands.Order.{demand-2-first-fault}
 
 -- a refusal of an AVP that has this name
-named-fault : (number : ℕ) (a : Avp) {depth vendor code : ℕ} → Stands a depth vendor code
+pub named-fault : (number : ℕ) (a : Avp) {depth vendor code : ℕ} → Stands a depth vendor code
     → memberFault number a ≡ refused number (placeOf a) vendor code
 named-fault number a n =
     ap (λ (v : ℕ). refused number (placeOf a) v (a .code)) (n .vendor-is)

@@ -1,0 +1,2 @@
+-- A number of seconds in 64 bits.
+pub mod Widths
