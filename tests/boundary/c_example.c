@@ -1,5 +1,5 @@
 /* Reads document 01's commands S, S without its last AVP, and H through the boundary, writes drafts made from S and the
- * canonical form of commands like S, and prints what comes back. */
+ * canonical form of commands like S, and prints what comes back; and the seconds between some times. */
 #include <inttypes.h>
 #include <stdio.h>
 #include <string.h>
@@ -84,6 +84,10 @@ static void print_altered(const char *name, size_t index, uint32_t number) {
     print_written(name, sizeof output);
 }
 
+static void print_seconds(uint32_t start, uint32_t end) {
+    printf("seconds from %" PRIu32 " to %" PRIu32 ": %" PRId64 "\n", start, end, talazumir_seconds(start, end));
+}
+
 int main(void) {
     memset(record, 0xFF, sizeof record);
     print_verdict("S", talazumir_read(S, sizeof S, record));
@@ -158,5 +162,11 @@ int main(void) {
     print_canonical("form of S with T set", altered, sizeof altered, 160);
     print_canonical("form of S without 4208", shorter, sizeof shorter, sizeof output);
     print_canonical("form of S without 4208", shorter, sizeof shorter, 0);
+
+    print_seconds(4294967295, 0);
+    print_seconds(2147483647, 2147483648);
+    print_seconds(2147483648, 2147483647);
+    print_seconds(4294944000, 63104);
+    print_seconds(7, 7);
     return 0;
 }

@@ -28,6 +28,7 @@ static void data(void) { answer = talazumir_data(record, 10, octets, length).len
 static void search(void) { answer = talazumir_search(record, 10415, 4208); }
 static void write_draft(void) { answer = talazumir_write(record, octets, length, out, sizeof out).verdict.number; }
 static void canonical(void) { answer = talazumir_canonical(octets, length, out, sizeof out).verdict.number; }
+static void seconds(void) { answer = (uint32_t)talazumir_seconds(4294967295, 0); }
 
 static void link_fresh(void) { answer = talazumir_link_fresh().held; }
 static void link_take(void) {
@@ -56,6 +57,7 @@ static void try_all(uint32_t number) {
     on_stack("data", data, TALAZUMIR_DATA_STACK, number == 0 ? 4 : 0);
     on_stack("search", search, TALAZUMIR_SEARCH_STACK, number == 0 ? 10 : TALAZUMIR_NONE);
     on_stack("canonical", canonical, TALAZUMIR_CANONICAL_STACK, number);
+    on_stack("seconds", seconds, TALAZUMIR_SECONDS_STACK, 1);
     on_stack("link_fresh", link_fresh, TALAZUMIR_LINK_FRESH_STACK, 0);
     on_stack("link_take", link_take, TALAZUMIR_LINK_TAKE_STACK, length == 0 ? TALAZUMIR_NO_VERDICT : number);
     /* the empty record is a draft of no AVP, whose command has neither R nor P */

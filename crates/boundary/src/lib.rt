@@ -1,6 +1,8 @@
 // The boundary for C and Rust callers: the verdict, the record as numbers, the data of a position, the search, the
-// writer, the canonical form, and commands from a link. include/talazumir.h says the same in C's terms.
+// writer, the canonical form, the seconds between two times, and commands from a link. include/talazumir.h says the same
+// in C's terms.
 ghost use mathlib.Core.Path.{_≡_};
+ghost use Rattle.rules.specs.Times.{seconds};
 ghost use Rattle.reader.specs.Promise.{Judged};
 ghost use Rattle.numbers.specs.Draft.{numberedDraft};
 ghost use Rattle.writer.specs.Promise.{IsWritten};
@@ -104,4 +106,12 @@ pub extern "C" fn talazumir_canonical(s: &[u8], out: &mut [u8]) -> Written
     ensures { λ r. ⌜ IsCanonical (now (s .entry)) (now (out .entry)) r (now (out .exit)) ⌝ }
 {
     canonical::canonical(s, out)
+}
+
+// The signed number of seconds from one Time to another.
+#[no_mangle]
+pub extern "C" fn talazumir_seconds(start: u32, end: u32) -> i64
+    ensures { λ r. ⌜ r ≡ seconds start end ⌝ }
+{
+    times::seconds(start, end)
 }

@@ -17,6 +17,7 @@ extern "C" {
     fn talazumir_search(record: *const u32, vendor: u32, code: u32) -> u32;
     fn talazumir_write(record: *const u32, octets: *const u8, length: usize, out: *mut u8, room: usize) -> Written;
     fn talazumir_canonical(octets: *const u8, length: usize, out: *mut u8, room: usize) -> Written;
+    fn talazumir_seconds(start: u32, end: u32) -> i64;
     fn talazumir_link_fresh() -> State;
     fn talazumir_link_take(
         state: State,
@@ -61,6 +62,11 @@ pub(crate) fn write(record: &[u32; RECORD_NUMBERS], octets: &[u8], out: &mut [u8
 pub(crate) fn canonical(octets: &[u8], out: &mut [u8]) -> Written {
     // SAFETY: the slice is only read, the output is written; see above.
     unsafe { talazumir_canonical(octets.as_ptr(), octets.len(), out.as_mut_ptr(), out.len()) }
+}
+
+pub(crate) fn seconds(start: u32, end: u32) -> i64 {
+    // SAFETY: two numbers are handed over.
+    unsafe { talazumir_seconds(start, end) }
 }
 
 pub(crate) fn link_fresh() -> State {

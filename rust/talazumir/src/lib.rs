@@ -15,7 +15,8 @@
 //! A record over lent octets is a draft, which [`write()`] turns into a command; `examples/rewrite.rs` reads a command,
 //! gives it another hop-by-hop identifier and writes it. [`canonical`] writes a command in the one form that all
 //! commands of its meaning share; `examples/states.rs` keeps a set of states by it. [`Link`] puts commands together
-//! from the fragments of a capture, which end anywhere; `examples/link.rs` reads one from standard input.
+//! from the fragments of a capture, which end anywhere; `examples/link.rs` reads one from standard input. [`seconds`]
+//! gives the seconds of a time window, also across 2036.
 
 #![deny(unsafe_code)]
 
@@ -237,6 +238,20 @@ pub fn write(record: &Record, octets: &[u8], out: &mut [u8]) -> Written {
 /// ```
 pub fn canonical(octets: &[u8], out: &mut [u8]) -> Written {
     boundary::canonical(octets, out)
+}
+
+/// The seconds from one Time value (RFC 6733, clause 4.3.1), as the four octets of a Transfer-Start-Time (4206) or a
+/// Transfer-End-Time (4205) say it, to another. From 2,147,483,648 on a value counts from 1900, below from 7 February
+/// 2036, 06:28:16 UTC. 0 exactly for equal values, negative for a reversed window, between -4,294,967,295 and
+/// 4,294,967,295; a Time-Window (4204) is right exactly where it is above 0, else refused with 5004.
+///
+/// ```
+/// // 7 February 2036, from midnight to midnight.
+/// assert_eq!(talazumir::seconds(4_294_944_000, 63_104), 86_400);
+/// assert_eq!(talazumir::seconds(63_104, 4_294_944_000), -86_400);
+/// ```
+pub fn seconds(start: u32, end: u32) -> i64 {
+    boundary::seconds(start, end)
 }
 
 /// Judges commands one after the other with one log, which is scratch memory, and makes no record.
