@@ -25,6 +25,7 @@ pub mod rows;
 mod shrink;
 pub mod state_coverage;
 pub mod states;
+pub mod time;
 pub mod trial;
 mod verdict;
 pub mod volume_coverage;

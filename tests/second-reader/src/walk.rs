@@ -8,6 +8,7 @@ use crate::dictionary::{Form, Kind, Kinds};
 use crate::header::HEADER;
 use crate::record::{Avp, MOST_AVPS};
 use crate::rows::{self, missing, Members, Rows};
+use crate::time;
 use crate::verdict::{number, Verdict};
 
 /// The depth at which no group may stand.
@@ -173,7 +174,7 @@ impl<K: Keep> Walk<'_, K> {
         let order = self.count;
         let list = self.list(rows, depth + 1, start, end)?;
         match kind {
-            Kind::TimeWindow if list.end_time <= list.start_time => {
+            Kind::TimeWindow if !time::is_right(list.start_time, list.end_time) => {
                 let (vendor, code) = (Kind::TransferEndTime.vendor(), Kind::TransferEndTime.code());
                 let fault = Verdict::named(number::INVALID_AVP_VALUE, list.end_time_at, vendor, code);
                 self.windows.note(order, fault);

@@ -1,6 +1,7 @@
 //! Every case of 01's "Commands at the edges", its worked book, the readings, and the rules of 02.
 
 use commands::{s_list, S};
+use second_reader::time::seconds;
 use second_reader::{data, listing, number, read, search, verdict, Avp, Record, Verdict};
 use std::slice::from_ref;
 
@@ -165,20 +166,176 @@ fn s_and_its_neighbours() {
     assert_eq!(judge(&command(0xC0, &list)), (5004, 100, TGPP, 4203));
 }
 
+/// Start, end and the seconds between them, by hand.
+const WINDOWS: [(u32, u32, i64); 22] = [
+    (10, 11, 1),
+    (10, 10, 0),
+    // Over the moment of 7 February 2036, 06:28:16 UTC.
+    (4_294_967_295, 0, 1),
+    (0xFFFF_FFFE, 1, 3),
+    // From 1 January to 1 March 2036: 60 days.
+    (4_291_747_200, 1_963_904, 5_184_000),
+    // From the first moment to the last.
+    (2_147_483_648, 2_147_483_647, 4_294_967_295),
+    // The longest ones before the turn and behind it.
+    (0x8000_0000, 0xFFFF_FFFF, 2_147_483_647),
+    (0x0000_0000, 0x7FFF_FFFF, 2_147_483_647),
+    // The range's half, and a second less and more.
+    (0xC000_0000, 0x3FFF_FFFF, 2_147_483_647),
+    (0xC000_0000, 0x4000_0000, 2_147_483_648),
+    (0xC000_0000, 0x4000_0001, 2_147_483_649),
+    (0x8000_0000, 0x0000_0000, 2_147_483_648),
+    (0x8000_0000, 0x0000_0001, 2_147_483_649),
+    (0xFFFF_FFFF, 0x7FFF_FFFF, 2_147_483_648),
+    (0xFFFF_FFFE, 0x7FFF_FFFF, 2_147_483_649),
+    // Next to the ends.
+    (0x8000_0000, 0x8000_0001, 1),
+    (0x7FFF_FFFE, 0x7FFF_FFFF, 1),
+    (0x8000_0001, 0x7FFF_FFFE, 4_294_967_293),
+    (0, 0, 0),
+    (0x7FFF_FFFF, 0x7FFF_FFFF, 0),
+    (0x8000_0000, 0x8000_0000, 0),
+    (0xFFFF_FFFF, 0xFFFF_FFFF, 0),
+];
+
+/// A Supported-Features with these behind its own members, 56 octets without them.
+fn features(inner: &[Vec<u8>]) -> Vec<u8> {
+    let own = vec![plain(266, &four(1)), tgpp(629, &four(1)), tgpp(630, &four(1))];
+    tgpp(628, &[own, inner.to_vec()].concat().concat())
+}
+
+/// A right window with these behind its own members, 44 octets without them.
+fn outer(inner: &[Vec<u8>]) -> Vec<u8> {
+    tgpp(4204, &[vec![tgpp(4206, &four(1)), tgpp(4205, &four(2))], inner.to_vec()].concat().concat())
+}
+
 #[test]
 fn windows() {
-    for (start, end, accepted) in [(10, 10, false), (10, 11, true), (11, 10, false), (0x7FFF_FFFF, 0x8000_0000, true)] {
-        let mut list = s_list();
-        list.push(window(start, end));
-        let expected = if accepted { (0, 0, 0, 0) } else { (5004, 188, TGPP, 4205) };
-        assert_eq!(judge(&command(0xC0, &list)), expected);
+    for (start, end, between) in WINDOWS {
+        for (start, end, between) in [(start, end, between), (end, start, -between)] {
+            assert_eq!(seconds(start, end), between, "{start:08X} to {end:08X}");
+            // In the command's own list, in each group that admits others, and in a group of a group.
+            let one = window(start, end);
+            for (holder, at) in [
+                (one.clone(), 0),
+                (proxy(from_ref(&one)), 32),
+                (features(from_ref(&one)), 56),
+                (policy(from_ref(&one)), 28),
+                (outer(from_ref(&one)), 44),
+                (proxy(&[features(from_ref(&one))]), 32 + 56),
+                (outer(&[policy(from_ref(&one))]), 44 + 28),
+            ] {
+                let expected = if between > 0 { (0, 0, 0, 0) } else { (5004, 160 + at + 28, TGPP, 4205) };
+                assert_eq!(judge_with(&s_list(), &[holder]), expected, "{start:08X} to {end:08X} at {at}");
+            }
+        }
     }
-    // The outer of two nested windows starts first, though it ends last.
-    let inner = window(5, 5);
-    let outer = tgpp(4204, &[inner, tgpp(4205, &four(1)), tgpp(4206, &four(1))].concat());
-    let mut list = s_list();
-    list.push(outer);
-    assert_eq!(judge(&command(0xC0, &list)), (5004, 160 + 12 + 44, TGPP, 4205));
+}
+
+/// The place of the 4205 at fault in an answer whose policies have these windows: 4202 at 100, 2207 at 116, then the
+/// policies of 84 octets from 132 on, each with its 4205 56 octets behind its start.
+fn place_among(windows: &[(u32, u32)]) -> Option<u32> {
+    let mut list = answer_list();
+    list.extend([tgpp(4202, b"i"), avp(TGPP, 2207, 0, b"a")]);
+    list.extend(windows.iter().map(|&(start, end)| policy(&[window(start, end), plain(432, &four(1))])));
+    match judge(&command(0x40, &list)) {
+        (0, 0, 0, 0) => None,
+        (5004, place, TGPP, 4205) => Some(place),
+        other => panic!("{other:?}"),
+    }
+}
+
+#[test]
+fn first_wrong_window() {
+    let (over, back) = ((0xFFFF_FFFF, 0), (0, 0xFFFF_FFFF));
+    let (whole, reverse) = ((0x8000_0000, 0x7FFF_FFFF), (0x7FFF_FFFF, 0x8000_0000));
+    let [first, second, third] = [Some(188), Some(272), Some(356)];
+    for (windows, expected) in [
+        (&[(1, 2), (2, 3)][..], None),
+        (&[(1, 1), (2, 3)], first),
+        (&[(1, 2), (3, 2)], second),
+        (&[(1, 1), (3, 2)], first),
+        (&[(1, 2), (2, 3), (3, 3)], third),
+        (&[(1, 2), (2, 2), (3, 3)], second),
+        // As numbers alone another one would be named, or one where there is none, or none.
+        (&[over, (3, 2)], second),
+        (&[whole, reverse], second),
+        (&[over, whole, (2, 2)], third),
+        (&[reverse, whole], first),
+        (&[back, (3, 2)], first),
+        (&[(1, 2), reverse, (3, 2)], second),
+        (&[over, whole], None),
+        (&[(1, 2), back], second),
+        (&[back, reverse], first),
+    ] {
+        assert_eq!(place_among(windows), expected, "{windows:08X?}");
+    }
+}
+
+#[test]
+fn window_in_a_window() {
+    let nested = |start: u32, end: u32, inner: Vec<u8>| {
+        let outer = tgpp(4204, &[inner, tgpp(4205, &four(end)), tgpp(4206, &four(start))].concat());
+        judge_with(&s_list(), &[outer])
+    };
+    // The outer one starts first, though it ends last. Its 4205 stands behind the inner one.
+    let (of_outer, of_inner) = ((5004, 160 + 12 + 44, TGPP, 4205), (5004, 160 + 12 + 28, TGPP, 4205));
+    assert_eq!(nested(1, 1, window(5, 5)), of_outer);
+    assert_eq!(nested(0x7FFF_FFFF, 0x8000_0000, window(5, 5)), of_outer);
+    assert_eq!(nested(0, 0xFFFF_FFFF, window(0xFFFF_FFFF, 0)), of_outer);
+    assert_eq!(nested(0xFFFF_FFFF, 0, window(5, 5)), of_inner);
+    assert_eq!(nested(0x8000_0000, 0x7FFF_FFFF, window(0x7FFF_FFFF, 0x8000_0000)), of_inner);
+    assert_eq!(nested(0xFFFF_FFFF, 0, window(0x8000_0000, 0x7FFF_FFFF)), (0, 0, 0, 0));
+}
+
+#[test]
+fn window_in_its_order() {
+    // A wrong window in a group of 76 octets, behind each of the other rules.
+    let wrong = proxy(&[window(0x7FFF_FFFF, 0x8000_0000)]);
+    let without = |list: Vec<Vec<u8>>, gone: usize| {
+        let list = list.into_iter().enumerate();
+        list.filter(|&(at, _)| at != gone).map(|(_, avp)| avp).collect::<Vec<_>>()
+    };
+    let end = |length: u32| length + 76;
+    for (gone, length, vendor, code) in [(8, 144, TGPP, 4202), (9, 144, TGPP, 4208), (7, 148, 0, 293)] {
+        assert_eq!(judge_with(&without(s_list(), gone), from_ref(&wrong)), (5005, end(length), vendor, code));
+    }
+    assert_eq!(judge_with(&volumeless(), from_ref(&wrong)), (5005, end(236), 0, 414));
+    assert_eq!(judge_with(&volumeless(), &[wrong.clone(), volume(421), volume(412)]), (5008, end(236), 0, 421));
+    let ready = [volumeless(), vec![volume(421)]].concat();
+    for (gone, length, code) in [(10, 236, 532), (11, 236, 4209), (12, 208, 4204)] {
+        assert_eq!(judge_with(&without(ready.clone(), gone), from_ref(&wrong)), (5005, end(length), TGPP, code));
+    }
+    assert_eq!(judge_with(&ready, from_ref(&wrong)), (5004, 252 + 32 + 28, TGPP, 4205));
+    // Behind the rows, and behind the walk.
+    assert_eq!(judge_with(&ready, &[wrong.clone(), tgpp(4204, b"")]), (5009, end(252), TGPP, 4204));
+    assert_eq!(judge_with(&ready, &[wrong.clone(), proxy(&[tgpp(4204, b"")])]), (5005, end(252) + 44, TGPP, 4206));
+    assert_eq!(judge_with(&ready, &[wrong.clone(), plain(277, &four(0))]), (5004, end(252), 0, 277));
+    // In an answer: 100 octets, then the window.
+    let answer = |more: &[Vec<u8>]| judge(&command(0x40, &[&answer_list(), from_ref(&wrong), more].concat()));
+    let result = plain(297, &[plain(266, &four(1)), plain(298, &four(1))].concat());
+    assert_eq!(judge(&command(0x40, &[&answer_list()[..5], from_ref(&wrong)].concat())), (5005, end(88), 0, 268));
+    assert_eq!(answer(&[result]), (5008, end(100), 0, 297));
+    let (reference, group) = (tgpp(4202, b"i"), plain(432, &four(1)));
+    let whole = policy(&[window(1, 2), group.clone()]);
+    assert_eq!(answer(from_ref(&whole)), (5005, end(184), TGPP, 4202));
+    assert_eq!(answer(&[reference.clone(), whole.clone(), whole]), (5005, end(100) + 16 + 168, TGPP, 2207));
+    assert_eq!(answer(&[reference.clone(), policy(from_ref(&group))]), (5005, end(100) + 16 + 40, TGPP, 4204));
+    assert_eq!(answer(&[reference, policy(&[window(1, 2)])]), (5005, end(100) + 16 + 72, 0, 432));
+    assert_eq!(answer(&[]), (5004, 100 + 32 + 28, TGPP, 4205));
+}
+
+#[test]
+fn times_outside_a_window() {
+    let times = [tgpp(4206, &four(2)), tgpp(4205, &four(1))];
+    assert_eq!(judge_with(&s_list(), &times), (0, 0, 0, 0));
+    assert_eq!(judge_with(&s_list(), &[proxy(&times)]), (0, 0, 0, 0));
+    assert_eq!(judge_with(&s_list(), &[policy(&times)]), (0, 0, 0, 0));
+    // Of a group within the window.
+    assert_eq!(judge_with(&s_list(), &[outer(&[proxy(&times)])]), (0, 0, 0, 0));
+    // Another vendor's 4204, and one in Failed-AVP, is no window.
+    assert_eq!(judge_with(&s_list(), &[avp(9, 4204, 0, &times.concat())]), (0, 0, 0, 0));
+    assert_eq!(judge_with(&s_list(), &[plain(279, &window(2, 1))]), (0, 0, 0, 0));
 }
 
 #[test]

@@ -326,3 +326,38 @@ fn total_beside_a_direction() {
     let within = request(zero, &[&group[..], &[output]].concat());
     assert_eq!(answer(&within, &lent_with_0()), [0, 0, 0, 0, 236 + 48 + 16]);
 }
+
+/// Lent octets with these times at 21 and 25, and S with a window of them behind.
+fn window(start: u32, end: u32) -> (Draft, Vec<u8>) {
+    let times = [place(1, TGPP, 4204, 0, 32), place(2, TGPP, 4206, 21, 4), place(2, TGPP, 4205, 25, 4)];
+    (s_with(&times), [&LENT[..], &start.to_be_bytes(), &end.to_be_bytes()].concat())
+}
+
+#[test]
+fn windows() {
+    for (start, end, right) in [
+        (10, 11, true),
+        (11, 10, false),
+        (0, 0, false),
+        (0x7FFF_FFFF, 0x7FFF_FFFF, false),
+        (0x8000_0000, 0x8000_0000, false),
+        (0xFFFF_FFFF, 0xFFFF_FFFF, false),
+        // Over the moment of 7 February 2036, 06:28:16 UTC, and back.
+        (0xFFFF_FFFF, 0, true),
+        (0, 0xFFFF_FFFF, false),
+        // The whole range, and its half.
+        (0x8000_0000, 0x7FFF_FFFF, true),
+        (0x7FFF_FFFF, 0x8000_0000, false),
+        (0xC000_0000, 0x4000_0000, true),
+        (0x4000_0000, 0xC000_0000, false),
+    ] {
+        let (draft, octets) = window(start, end);
+        let expected = if right { [0, 0, 0, 0, 204] } else { [5004, 188, TGPP, 4205, 0] };
+        let (answer, command) = written(&draft, &octets, 204);
+        assert_eq!(answer, expected, "{start:08X} to {end:08X}");
+        assert_eq!(written(&draft, &octets, 203).0, TOO_SHORT);
+        if right {
+            assert_eq!([&command[184..188], &command[200..204]], [start.to_be_bytes(), end.to_be_bytes()]);
+        }
+    }
+}

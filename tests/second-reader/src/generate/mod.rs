@@ -7,6 +7,7 @@ mod mutate;
 mod prng;
 pub mod runs;
 mod sound;
+mod times;
 mod tree;
 
 pub use books::{book, sweep};

@@ -1,6 +1,7 @@
 //! Sound commands of every shape.
 
 use super::prng::Prng;
+use super::times;
 use super::tree::{Body, Node, Tree};
 use crate::dictionary::{Form, Kind, DIRECTIONS, VOLUMES};
 use crate::header::LONGEST_COMMAND;
@@ -220,25 +221,13 @@ fn members(kind: Kind, depth: usize, prng: &mut Prng) -> Vec<Node> {
     extras(&mut list, rows, inner, prng);
     prng.shuffle(&mut list);
     if kind == TimeWindow {
-        set_window(&mut list, prng);
+        set_window(&mut list, times::right(prng));
     }
     list
 }
 
-/// Gives a Time-Window's members an end after the start, unsigned.
-fn set_window(list: &mut [Node], prng: &mut Prng) {
-    let start = match prng.below(4) {
-        0 => prng.pick(&[0, 0x7FFF_FFFF, 0x7FFF_FFFE, 0x8000_0000, 10, u32::MAX - 1]),
-        _ => prng.word().min(u32::MAX - 1),
-    };
-    let room = u32::MAX - start;
-    let end = start
-        + match prng.below(4) {
-            0 => 1,
-            1 => room,
-            2 => (prng.word() % room).max(1),
-            _ => (prng.below(4000) as u32 + 1).min(room),
-        };
+/// Gives a Time-Window's members a start and an end.
+pub fn set_window(list: &mut [Node], (start, end): (u32, u32)) {
     for node in list {
         if node.is(TransferStartTime) {
             node.body = Body::Data(start.to_be_bytes().to_vec());
