@@ -1,6 +1,6 @@
 //! Makes a case that fails small, and shows it.
 
-use crate::draft::{avps, Place};
+use crate::draft::{avps, Draft, Place};
 use crate::generate::drafts::{settle, Case};
 use std::fmt::{self, Display, Formatter};
 
@@ -56,6 +56,7 @@ fn steps(case: &Case) -> Vec<Step> {
                 steps.push(Box::new(move |case| copy_place(case, at, settles)));
             }
         }
+        steps.push(Box::new(move |case| drop_avp(case, at)));
         steps.push(Box::new(move |case| absorb(case, at)));
         steps.push(Box::new(move |case| case.draft.places[at] = Place::default()));
         steps.push(Box::new(move |case| case.draft.places[at].start = 0));
@@ -82,6 +83,20 @@ fn drop_place(case: &mut Case, at: usize, settles: bool) {
     }
 }
 
+/// Drops the AVP at `at` with its members.
+fn drop_avp(case: &mut Case, at: usize) {
+    let draft = &mut case.draft;
+    if at < draft.used().len() {
+        draft.remove(at, 1 + members(draft, at));
+        settle(draft.used_mut());
+    }
+}
+
+/// How many places are below the one at `at`.
+fn members(draft: &Draft, at: usize) -> usize {
+    draft.used().get(at..).and_then(|rest| avps(rest).next()).map_or(0, |(_, members)| members.len())
+}
+
 /// Gives the octets of the AVP at `at` and of its members to a plain one before it in its list: the command is as long.
 fn absorb(case: &mut Case, at: usize) {
     let draft = &mut case.draft;
@@ -99,9 +114,11 @@ fn absorb(case: &mut Case, at: usize) {
     }
 }
 
-/// Makes the place the same as the one before it.
+/// Makes the place, and those of its members, the same as the one before it: as many places are used.
 fn copy_place(case: &mut Case, at: usize, settles: bool) {
-    case.draft.places[at] = case.draft.places[at - 1];
+    let last = at + members(&case.draft, at);
+    let before = case.draft.places[at - 1];
+    case.draft.places[at..=last].fill(before);
     if settles {
         settle(case.draft.used_mut());
     }
