@@ -103,7 +103,7 @@ fn answer(prng: &mut Prng) -> Vec<Node> {
 }
 
 /// A Transfer-Policy as an answer's own list needs it.
-fn policy(prng: &mut Prng) -> Node {
+pub fn policy(prng: &mut Prng) -> Node {
     let mut node = known(TransferPolicy, 1, prng);
     if let Body::Members(members) = &mut node.body {
         for kind in [TimeWindow, RatingGroup] {

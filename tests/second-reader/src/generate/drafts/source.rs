@@ -73,8 +73,9 @@ fn record(prng: &mut Prng) -> (Draft, Vec<u8>) {
 fn built(prng: &mut Prng) -> (Draft, Vec<u8>) {
     let mut tree = crate::generate::sound(prng);
     match prng.below(8) {
-        0..=1 => {}
-        2 => mutate::volumes(&mut tree, prng),
+        0 => {}
+        1 => mutate::volumes(&mut tree, prng),
+        2 => mutate::windows(&mut tree, prng),
         3..=6 => mutate::tree(&mut tree, prng),
         _ => mutate::rules(&mut tree, prng),
     }

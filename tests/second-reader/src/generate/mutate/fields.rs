@@ -1,6 +1,6 @@
 //! Wrong fields: of the header, of AVP headers, of data.
 
-use super::pick::{each, one, some_list, some_node};
+use super::pick::{one, some_list, some_node};
 use crate::dictionary::{Form, Kind};
 use crate::generate::prng::Prng;
 use crate::generate::sound;
@@ -106,53 +106,4 @@ pub fn value(tree: &mut Tree, prng: &mut Prng) {
             node.body = Body::Data(value.to_be_bytes().to_vec());
         },
     );
-}
-
-/// Makes windows wrong.
-pub fn window(tree: &mut Tree, prng: &mut Prng) {
-    if prng.one_in(4) {
-        let node = sound::known(TimeWindow, 2, prng);
-        let list = some_list(&mut tree.list, prng);
-        list.insert(prng.below(list.len() + 1), node);
-    }
-    if prng.one_in(8) {
-        // A window in a window, both anew.
-        one(
-            tree,
-            prng,
-            |node| node.is(TimeWindow),
-            |node, prng| {
-                if let Body::Members(members) = &mut node.body {
-                    members.insert(prng.below(members.len() + 1), sound::known(TimeWindow, 3, prng));
-                }
-            },
-        );
-        each(&mut tree.list, &mut |node| set_times(node, prng));
-    } else {
-        one(tree, prng, |node| node.is(TimeWindow), set_times);
-    }
-}
-
-/// Sets a window's times, in most cases not in order.
-fn set_times(node: &mut Node, prng: &mut Prng) {
-    if node.is(TimeWindow) {
-        let base = prng.pick(&[0u32, 10, 255, 256, 0x7FFF_FFFF, 0x8000_0000, u32::MAX, 0x0102_0304]);
-        let other = match prng.below(5) {
-            0 => base,
-            1 => base.wrapping_add(1),
-            2 => base.wrapping_sub(1),
-            3 => base ^ 0x8000_0000,
-            _ => prng.word(),
-        };
-        let Body::Members(members) = &mut node.body else {
-            return;
-        };
-        for member in members {
-            if member.is(TransferStartTime) {
-                member.body = Body::Data(base.to_be_bytes().to_vec());
-            } else if member.is(TransferEndTime) {
-                member.body = Body::Data(other.to_be_bytes().to_vec());
-            }
-        }
-    }
 }

@@ -1,7 +1,7 @@
 //! Members that are missing, too many or out of place.
 
-use super::fields::window;
 use super::pick::{one, some_list};
+use super::windows::window;
 use crate::dictionary::{Kind, DIRECTIONS, VOLUMES};
 use crate::generate::prng::Prng;
 use crate::generate::sound;
@@ -43,9 +43,13 @@ pub fn drop_ruled(tree: &mut Tree, prng: &mut Prng) {
         return;
     }
     for _ in 0..prng.pick(&[1, 1, 1, 2, 3, 5]) {
-        let gone = prng.pick(&there);
-        tree.list.retain(|node| !(node.is(gone) || gone == CcOutputOctets && is_volume(node)));
+        drop_kind(tree, prng.pick(&there));
     }
+}
+
+/// Drops the AVPs of this kind from the command's list; with 414 all volumes.
+pub fn drop_kind(tree: &mut Tree, gone: Kind) {
+    tree.list.retain(|node| !(node.is(gone) || gone == CcOutputOctets && is_volume(node)));
 }
 
 /// Drops about half of a group's members.
@@ -160,6 +164,15 @@ pub fn volumes(tree: &mut Tree, prng: &mut Prng) {
         4..=5 => add_volume(tree, CcTotalOctets, true, prng),
         6 => add_volume(tree, prng.pick(&VOLUMES), false, prng),
         _ => {}
+    }
+}
+
+/// The total beside a direction, where one of them is missing.
+pub fn total(tree: &mut Tree, prng: &mut Prng) {
+    for kind in [CcTotalOctets, prng.pick(&DIRECTIONS)] {
+        if !tree.list.iter().any(|node| node.is(kind)) {
+            add_volume(tree, kind, false, prng);
+        }
     }
 }
 
