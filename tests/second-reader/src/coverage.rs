@@ -5,7 +5,8 @@ use crate::dictionary::{Form, Kind};
 use crate::header::HEADER;
 use crate::rows;
 use crate::verdict::{number, Verdict};
-use crate::volume_coverage::{self, Cell};
+use crate::walked::Walked;
+use crate::{volume_coverage, window_coverage};
 use std::collections::BTreeMap;
 use std::fmt::{self, Display, Formatter};
 use std::ops::RangeInclusive;
@@ -28,7 +29,8 @@ pub struct Coverage {
     by_name_and_depth: BTreeMap<(u32, u32, u32, u8), u64>,
     widths_by_depth: BTreeMap<u8, u64>,
     accepted_by_depth: BTreeMap<u8, u64>,
-    by_volumes: BTreeMap<Cell, u64>,
+    by_volumes: BTreeMap<volume_coverage::Cell, u64>,
+    by_windows: BTreeMap<window_coverage::Cell, u64>,
     requests: u64,
     most_avps: usize,
     longest: usize,
@@ -39,8 +41,13 @@ impl Coverage {
     pub fn note(&mut self, octets: &[u8], verdict: &Verdict) {
         self.commands += 1;
         *self.by_number.entry(verdict.number).or_default() += 1;
-        for cell in volume_coverage::cells(octets, verdict) {
-            *self.by_volumes.entry(cell).or_default() += 1;
+        if let Some(walked) = Walked::of(octets) {
+            for cell in volume_coverage::cells(&walked, verdict) {
+                *self.by_volumes.entry(cell).or_default() += 1;
+            }
+            for cell in window_coverage::cells(&walked, verdict) {
+                *self.by_windows.entry(cell).or_default() += 1;
+            }
         }
         match verdict.number {
             number::ACCEPTED => self.accepted(octets),
@@ -89,8 +96,13 @@ impl Coverage {
     }
 
     /// How often the volumes of a command were as this cell says.
-    pub(crate) fn times_volumes(&self, cell: Cell) -> u64 {
+    pub(crate) fn times_volumes(&self, cell: volume_coverage::Cell) -> u64 {
         self.by_volumes.get(&cell).copied().unwrap_or(0)
+    }
+
+    /// How often the windows of a command were as this cell says.
+    pub(crate) fn times_windows(&self, cell: window_coverage::Cell) -> u64 {
+        self.by_windows.get(&cell).copied().unwrap_or(0)
     }
 
     fn accepted(&mut self, octets: &[u8]) {
@@ -148,8 +160,13 @@ impl Display for Coverage {
             }
             writeln!(f)?;
         }
-        for cell in Cell::all() {
+        writeln!(f, "volumes:")?;
+        for cell in volume_coverage::Cell::all() {
             writeln!(f, "{:>8}  {cell:?}", self.times_volumes(cell))?;
+        }
+        writeln!(f, "windows:")?;
+        for cell in window_coverage::Cell::all() {
+            writeln!(f, "{:>8}  {cell:?}", self.times_windows(cell))?;
         }
         Ok(())
     }

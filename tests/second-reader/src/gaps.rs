@@ -1,11 +1,12 @@
 //! What a run must have reached: each number, each of the walk's checks at each depth, each row's missing and
-//! exceeding, each exchange rule, and the volumes' cells. A run that lacks one has tested less than it says.
+//! exceeding, each exchange rule, and the cells of volumes and windows. A run that lacks one has tested less than it
+//! says.
 
 use crate::coverage::Coverage;
 use crate::dictionary::Kind;
 use crate::rows::{self, Rows};
 use crate::verdict::number;
-use crate::volume_coverage::Cell;
+use crate::{volume_coverage, window_coverage};
 use std::ops::RangeInclusive;
 
 /// The depth of a command's own list, and those of a group's members.
@@ -74,9 +75,14 @@ impl Coverage {
                 gaps.push(format!("exchange rule {number} for {}", kind.code()));
             }
         }
-        for cell in Cell::all() {
+        for cell in volume_coverage::Cell::all() {
             if self.times_volumes(cell) == 0 {
                 gaps.push(format!("volumes: {cell:?}"));
+            }
+        }
+        for cell in window_coverage::Cell::all() {
+            if self.times_windows(cell) == 0 {
+                gaps.push(format!("windows: {cell:?}"));
             }
         }
         gaps

@@ -30,6 +30,8 @@ pub mod trial;
 mod verdict;
 pub mod volume_coverage;
 mod walk;
+mod walked;
+pub mod window_coverage;
 pub mod write_coverage;
 mod writer;
 

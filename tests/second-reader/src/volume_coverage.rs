@@ -2,10 +2,10 @@
 //! the rules before and behind it, and where it does not apply. A run that lacks a cell has tested less than it says.
 
 use crate::dictionary::{Kind, Kinds, DIRECTIONS, VOLUMES};
-use crate::header;
 use crate::record::Avp;
 use crate::verdict::{number, Verdict};
-use crate::walk::{walk, Found};
+use crate::walk::Found;
+use crate::walked::{is, names, Walked};
 use Kind::*;
 
 /// The total and one direction or both, in each order.
@@ -77,20 +77,17 @@ impl Cell {
 }
 
 /// The cells that a command with this verdict reaches.
-pub fn cells(octets: &[u8], verdict: &Verdict) -> Vec<Cell> {
-    let mut avps = Vec::new();
-    let walked = header::read(octets).and_then(|header| Ok((header.r, walk(octets, header.r, &mut avps)?)));
-    let Ok((request, found)) = walked else {
+pub(crate) fn cells(walked: &Walked, verdict: &Verdict) -> Vec<Cell> {
+    let Some(found) = &walked.found else {
         return Vec::new();
     };
-    avps.retain(|avp| VOLUMES.into_iter().any(|kind| names(avp, kind)));
-    let (own, inner): (Vec<Avp>, Vec<Avp>) = avps.into_iter().partition(|avp| avp.depth == 1);
+    let volumes = walked.avps.iter().filter(|avp| VOLUMES.into_iter().any(|kind| names(avp, kind)));
+    let (own, inner): (Vec<Avp>, Vec<Avp>) = volumes.partition(|avp| avp.depth == 1);
     let (own_kinds, inner_kinds) = (kinds(&own), kinds(&inner));
     let order = ORDERS.into_iter().find(|&order| order == own_kinds);
-    let request_type = (request && found.seen.has(TransferRequestType)).then_some(found.request_type);
     let accepted = *verdict == Verdict::ACCEPTED;
-    match (request_type, order) {
-        (Some(0), Some(order)) => beside(order, (&own, &inner), octets, &found, verdict),
+    match (walked.request_type(), order) {
+        (Some(0), Some(order)) => beside(order, (&own, &inner), walked, found, verdict),
         (Some(0), None) => apart(&own_kinds, &inner_kinds, verdict).into_iter().collect(),
         (Some(_), Some(order)) if accepted => vec![Cell::ChosenPolicy(order)],
         (None, Some(_)) if accepted => vec![Cell::Answer],
@@ -102,7 +99,7 @@ pub fn cells(octets: &[u8], verdict: &Verdict) -> Vec<Cell> {
 fn beside(
     order: &'static [Kind],
     (own, inner): (&[Avp], &[Avp]),
-    octets: &[u8],
+    walked: &Walked,
     found: &Found,
     verdict: &Verdict,
 ) -> Vec<Cell> {
@@ -115,7 +112,7 @@ fn beside(
     if !is(verdict, number::AVP_NOT_ALLOWED, CcTotalOctets) {
         return Vec::new();
     }
-    let is_0 = |avp: &Avp| octets[avp.start as usize..][..avp.length as usize].iter().all(|&octet| octet == 0);
+    let is_0 = |avp: &Avp| walked.data(avp).iter().all(|&octet| octet == 0);
     let (total, directions): (Vec<&Avp>, Vec<&Avp>) = own.iter().partition(|avp| names(avp, CcTotalOctets));
     let broken = |&(number, kind): &(u32, Kind)| match number {
         number::MISSING_AVP => !found.seen.has(kind),
@@ -153,14 +150,6 @@ fn kinds(avps: &[Avp]) -> Vec<Kind> {
     avps.iter().filter_map(|avp| Kind::of(avp.vendor, avp.code)).collect()
 }
 
-fn names(avp: &Avp, kind: Kind) -> bool {
-    (avp.vendor, avp.code) == (kind.vendor(), kind.code())
-}
-
 fn is_volume(verdict: &Verdict) -> bool {
     VOLUMES.into_iter().any(|kind| is(verdict, verdict.number, kind))
-}
-
-fn is(verdict: &Verdict, number: u32, kind: Kind) -> bool {
-    (verdict.number, verdict.vendor, verdict.code) == (number, kind.vendor(), kind.code())
 }

@@ -1,14 +1,15 @@
 //! What a run of write calls reached: each of 7006's ways, 7001 and 7004, each of the reader's
-//! refusals through the writer, and acceptance, by room, and the cells of the volumes. A run that
-//! lacks a cell has tested less than it says.
+//! refusals through the writer, and acceptance, by room, and the cells of volumes and windows. A run
+//! that lacks a cell has tested less than it says.
 
 use crate::draft::{Draft, Place};
 use crate::generate::drafts::{is_accepted, room, Case, Origin, Room, Way};
 use crate::header::LONGEST_COMMAND;
 use crate::record::MOST_AVPS;
 use crate::verdict::number;
-use crate::volume_coverage;
+use crate::walked::Walked;
 use crate::writer::{encode, length, Written};
+use crate::{volume_coverage, window_coverage};
 use std::collections::BTreeMap;
 use std::fmt::{self, Display, Formatter};
 
@@ -82,6 +83,8 @@ pub enum Cell {
     AcceptedWith(Feature),
     /// The reader's answer to what would be written, by its volumes.
     Volumes(volume_coverage::Cell),
+    /// The same by its windows.
+    Windows(window_coverage::Cell),
 }
 
 impl Cell {
@@ -104,6 +107,7 @@ impl Cell {
         let features = [Overlap, PartAtTheEnd, EmptyPartAtTheEnd, GroupElsewhere, MostAvps, Longest, Depth4];
         cells.extend(features.map(Cell::AcceptedWith));
         cells.extend(volume_coverage::Cell::all().into_iter().map(Cell::Volumes));
+        cells.extend(window_coverage::Cell::all().into_iter().map(Cell::Windows));
         cells
     }
 }
@@ -147,15 +151,21 @@ fn cells(case: &Case, answer: &Written) -> Vec<Cell> {
         number::OUTPUT_TOO_SHORT => vec![Cell::TooShort(room, !is_accepted(draft, octets))],
         number::ACCEPTED => {
             let features = features(draft, octets).into_iter().map(Cell::AcceptedWith);
-            features.chain(volumes(case, answer)).chain([Cell::Accepted(case.origin, room)]).collect()
+            features.chain(rules(case, answer)).chain([Cell::Accepted(case.origin, room)]).collect()
         }
-        number => volumes(case, answer).chain([Cell::Refused(number, room)]).collect(),
+        number => rules(case, answer).into_iter().chain([Cell::Refused(number, room)]).collect(),
     }
 }
 
-fn volumes(case: &Case, answer: &Written) -> impl Iterator<Item = Cell> {
+/// The cells of volumes and windows.
+fn rules(case: &Case, answer: &Written) -> Vec<Cell> {
     let command = encode(&case.draft, &case.octets);
-    volume_coverage::cells(&command, &answer.verdict).into_iter().map(Cell::Volumes)
+    let Some(walked) = Walked::of(&command) else {
+        return Vec::new();
+    };
+    let volumes = volume_coverage::cells(&walked, &answer.verdict).into_iter().map(Cell::Volumes);
+    let windows = window_coverage::cells(&walked, &answer.verdict).into_iter().map(Cell::Windows);
+    volumes.chain(windows).collect()
 }
 
 fn excess(length: u64) -> Excess {
