@@ -1,5 +1,6 @@
 //! Drafts at the limits of count and length.
 
+use super::lend::settle;
 use crate::draft::{Draft, Place};
 use crate::generate::prng::Prng;
 use crate::header::LONGEST_COMMAND;
@@ -17,6 +18,17 @@ pub fn crowd(draft: &mut Draft, prng: &mut Prng) {
     while draft.count < goal as u32 {
         push(draft, route_record(0, 0));
     }
+}
+
+/// Adds a group in a group in a group, and in that one a fourth, which has no members: deeper ones no draft can have.
+pub fn deepen(draft: &mut Draft) {
+    for depth in 1..=3 {
+        for (depth, code) in [(depth, 284), (depth + 1, 280), (depth + 1, 33)] {
+            push(draft, Place { depth, code, m: 1, ..Place::default() });
+        }
+    }
+    push(draft, Place { depth: 4, code: 284, m: 1, ..Place::default() });
+    settle(draft.used_mut());
 }
 
 /// Makes the command just as long as it may be, just longer, or longer by far: so that an AVP's

@@ -58,6 +58,7 @@ pub fn case(prng: &mut Prng) -> Case {
             damage::one(&mut draft, &mut octets, prng);
         }
         11 => limits::crowd(&mut draft, prng),
+        12 if prng.one_in(6) => limits::deepen(&mut draft),
         _ => {}
     }
     let output = room::draft_output(&draft, prng);
