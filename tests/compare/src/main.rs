@@ -1,5 +1,5 @@
 //! Compares the proved reader, over its boundary, with the second reader on generated commands: the verdict, the whole
-//! record, the data of every position and the search.
+//! record, the data of every position and the search; and the seconds between two generated times with each command.
 //!
 //! `compare SEED COMMANDS` ends with a table of what was reached. It exits 1 at the first difference, with the command
 //! in hexadecimal, or where a cell of the table is empty.
@@ -26,7 +26,8 @@ fn main() -> ExitCode {
     let mut coverage = Coverage::default();
     for ordinal in 1..=commands {
         let octets = shortened(command(&mut prng), &mut prng);
-        if let Err(difference) = compare(&octets, &mut reader) {
+        let compared = compare(&octets, &mut reader).and_then(|()| compare_seconds(&mut prng));
+        if let Err(difference) = compared {
             println!("seed {seed}, command {ordinal}: {difference}");
             println!("{}", octets.iter().map(|octet| format!("{octet:02x}")).collect::<String>());
             return ExitCode::FAILURE;
@@ -71,6 +72,16 @@ fn compare(octets: &[u8], reader: &mut talazumir::Reader) -> Result<(), String> 
         }
         Err(refusal) => same("refusal", (refusal.number, refusal.place, refusal.vendor, refusal.code), verdict),
     }
+}
+
+/// Of two times, each at the ends of the range or of a half, or any.
+fn compare_seconds(prng: &mut Prng) -> Result<(), String> {
+    let [start, end] = [(); 2].map(|()| {
+        let any = prng.word();
+        prng.pick(&[0, 0x7FFF_FFFF, 0x8000_0000, u32::MAX, any, any, any, any])
+    });
+    let (ours, expected) = (talazumir::seconds(start, end), second_reader::time::seconds(start, end));
+    same(format_args!("seconds from {start} to {end}"), ours, expected)
 }
 
 fn numbers(verdict: &second_reader::Verdict) -> (u32, u32, u32, u32) {
