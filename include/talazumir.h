@@ -89,11 +89,11 @@ extern "C" {
  *   7009  the run has stopped, or no such state (link)
  *
  * The place is the first octet of the AVP at fault; for 5005 the end of the list that lacks the AVP, with the missing
- * vendor and code. Of AVPs that exclude each other 5008 names, in an answer, Experimental-Result (297) beside Result-Code
- * (268), and in a request whose Transfer-Request-Type (4203) is 0 CC-Total-Octets (421) beside CC-Input-Octets (412) or
- * CC-Output-Octets (414). Where talazumir_seconds from start to end of a Time-Window (4204) is not above 0, 5004 names
- * its Transfer-End-Time (4205). Header refusals and 7002 have vendor and code 0; 7004, 7006, 7009 and the writer's 7001
- * have place 0 too. */
+ * vendor and code. Of AVPs that exclude each other 5008 names, in an answer, Experimental-Result (297) beside
+ * Result-Code (268), and in a request whose Transfer-Request-Type (4203) is 0 CC-Total-Octets (421) beside
+ * CC-Input-Octets (412) or CC-Output-Octets (414). Where talazumir_seconds from start to end of a Time-Window (4204) is
+ * not above 0, 5004 names its Transfer-End-Time (4205). Header refusals and 7002 have vendor and code 0; 7004, 7006,
+ * 7009 and the writer's 7001 have place 0 too. */
 struct TalazumirVerdict {
     uint32_t number;
     uint32_t place;
@@ -180,10 +180,11 @@ struct TalazumirWritten talazumir_write(const uint32_t record[TALAZUMIR_RECORD_N
  * length. */
 struct TalazumirWritten talazumir_canonical(const uint8_t *octets, size_t length, uint8_t *out, size_t room);
 
-/* The seconds from one Time value (RFC 6733, clause 4.3.1), as the four octets of a Transfer-Start-Time (4206) or a
- * Transfer-End-Time (4205) say it, to another. From 2147483648 on a value counts from 1900, below from 7 February 2036,
- * 06:28:16 UTC. 0 exactly for equal values, negative for a reversed window, between -4294967295 and 4294967295; a window
- * is right exactly where it is above 0. From 4294967295 to 0 it is 1, from 2147483647 to 2147483648 it is -4294967295. */
+/* The number of seconds from one Time value (RFC 6733, clause 4.3.1) to another, each as the number that the four
+ * octets of a Transfer-Start-Time (4206) or a Transfer-End-Time (4205) say, highest octet first. From 2147483648 on a
+ * value counts from the beginning of 1900, below from 7 February 2036, 06:28:16 UTC. The number is 0 exactly for equal
+ * values, negative for a reversed window, and between -4294967295 and 4294967295; a window is right exactly where the
+ * number is above 0. From 4294967295 to 0 it is 1, from 2147483647 to 2147483648 it is -4294967295. */
 int64_t talazumir_seconds(uint32_t start, uint32_t end);
 
 /* The state to start a run with: no octets held, not stopped. To start afresh is to take it again; it forgets what is

@@ -240,10 +240,11 @@ pub fn canonical(octets: &[u8], out: &mut [u8]) -> Written {
     boundary::canonical(octets, out)
 }
 
-/// The seconds from one Time value (RFC 6733, clause 4.3.1), as the four octets of a Transfer-Start-Time (4206) or a
-/// Transfer-End-Time (4205) say it, to another. From 2,147,483,648 on a value counts from 1900, below from 7 February
-/// 2036, 06:28:16 UTC. 0 exactly for equal values, negative for a reversed window, between -4,294,967,295 and
-/// 4,294,967,295; a Time-Window (4204) is right exactly where it is above 0, else refused with 5004.
+/// The number of seconds from one Time value (RFC 6733, clause 4.3.1) to another, each as [`u32::from_be_bytes`] makes
+/// it of the data of a Transfer-Start-Time (4206) or a Transfer-End-Time (4205). From 2,147,483,648 on a value counts
+/// from the beginning of 1900, below from 7 February 2036, 06:28:16 UTC. The number is 0 exactly for equal values,
+/// negative for a reversed window, and between -4,294,967,295 and 4,294,967,295. A Time-Window (4204) is right exactly
+/// where the number is above 0; else it is refused with 5004.
 ///
 /// ```
 /// // 7 February 2036, from midnight to midnight.
