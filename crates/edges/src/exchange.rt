@@ -82,8 +82,7 @@ pub(crate) fn policies() {
 }
 
 // Each 4204 of the walk: the start is before the end; else 5004 at 4205. From 2147483648 to 4294967295 times count from
-// 1900, from 0 to 2147483647 from 7 February 2036. In the answer, and where a 4204 stands in 284, by raw numbers the
-// first window would be at fault.
+// 1900, from 0 to 2147483647 from 7 February 2036. Of two windows raw numbers would name the other one.
 pub(crate) fn windows() {
     case::each(
         Start::BegunAnswer,
@@ -96,11 +95,11 @@ pub(crate) fn windows() {
         4205_before_4206 VM4204(VM4205=10 VM4206=10)
         window_in_284 M284(M280:68 M33:73 VM4204(VM4206=10 VM4205=10))
         window_of_7_february_2036 VM4204(VM4206=4294944000 VM4205=63104)
-        window_over_the_turn VM4204(VM4206=4294967295 VM4205=0)
-        window_back_over_the_turn VM4204(VM4206=0 VM4205=4294967295)
+        window_4294967295_to_0 VM4204(VM4206=4294967295 VM4205=0)
+        window_0_to_4294967295 VM4204(VM4206=0 VM4205=4294967295)
         window_1_to_4294967295 VM4204(VM4206=1 VM4205=4294967295)
-        window_before_the_turn VM4204(VM4206=4294967294 VM4205=4294967295)
-        window_back_before_the_turn VM4204(VM4206=4294967295 VM4205=4294967294)
+        window_before_2036 VM4204(VM4206=4294967294 VM4205=4294967295)
+        window_back_before_2036 VM4204(VM4206=4294967295 VM4205=4294967294)
         window_of_half_the_range VM4204(VM4206=2147483648 VM4205=0)
         window_back_by_half_the_range VM4204(VM4206=0 VM4205=2147483648)
         window_of_the_whole_range VM4204(VM4206=2147483648 VM4205=2147483647)

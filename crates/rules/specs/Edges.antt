@@ -180,14 +180,15 @@ totals =
     ∷ case (answerHeader 132 ++ answerBegins ++ avp 268 0x40 12 (octets 4 2001) ++ volumeOf 414 ++ volumeOf 421) 0 0 0 0
     ∷ []
 
--- request [5]: S with a window of 7 February 2036, from midnight to midnight, and with its reverse; with a window over
--- the turn and, in a group, one back over it
+-- request [5]: S with a window of 7 February 2036, from midnight to midnight, and with its reverse; with one from
+-- 4294967295 to 0 and, in a group, one from 0 to 4294967295
 unfoldable pub windowed : List Case
 windowed =
     case (requestHeader 204 ++ sFront ++ sEnds ++ windowOf 4294944000 63104) 0 0 0 0
     ∷ case (requestHeader 204 ++ sFront ++ sEnds ++ windowOf 63104 4294944000) 5004 188 vendor3GPP 4205
     ∷ case (requestHeader 280 ++ sFront ++ sEnds ++ windowOf 4294967295 0
-    ++ avp 284 0x40 76 (avp 280 0x40 9 (letter 0x68) ++ avp 33 0x40 9 (letter 0x73) ++ windowOf 0 4294967295)) 5004 264 vendor3GPP 4205
+    ++ avp 284 0x40 76 (avp 280 0x40 9 (letter 0x68) ++ avp 33 0x40 9 (letter 0x73) ++ windowOf 0 4294967295))
+    5004 264 vendor3GPP 4205
     ∷ []
 
 -- and two Time values with the seconds from the first to the second
@@ -288,12 +289,14 @@ total-edges = computed .2
 pub window-edges : verdicts windowed ≡ answers windowed
 window-edges = computed .3
 
-pub span-edges : map (λ (s : Span). seconds (s .start) (s .end)) spans ≡ map (λ (s : Span). s .number) spans
+-- and each two Time values have their seconds
+pub span-edges : map (λ (x : Span). seconds (x .start) (x .end)) spans ≡ map (λ (x : Span). x .number) spans
 unfolding spans span seconds moment
 span-edges = refl
 
 -- and a window of two of them is right exactly where that is above 0
-pub right-spans : map (λ (s : Span). isBefore (s .start) (s .end)) spans ≡ map (λ (s : Span). ltZ (pos 0) (s .number)) spans
+pub right-spans : map (λ (x : Span). isBefore (x .start) (x .end)) spans
+    ≡ map (λ (x : Span). ltZ (pos 0) (x .number)) spans
 unfolding spans span isBefore moment
 right-spans = refl
 

@@ -130,7 +130,9 @@ answerOutcome xs end = orElse (resultOutcome xs end) (orElse (policiesOutcome xs
 -- a window whose 4206 and 4205 stand at positions i and j: the start is before the end, else 5004 at 4205
 abbrev pub timesBy : List Avp → List ℕ → ℕ → ℕ → Outcome
 timesBy xs s i j =
-    cond (isBefore (numberAt 4 s (avpIn xs i .start)) (numberAt 4 s (avpIn xs j .start))) Pass (memberFault 5004 (avpIn xs j))
+    cond (isBefore (numberAt 4 s (avpIn xs i .start)) (numberAt 4 s (avpIn xs j .start)))
+    Pass
+    (memberFault 5004 (avpIn xs j))
 
 -- a window by its 4206 and its 4205; the rows have refused a 4204 without one of them
 abbrev pub windowBy : List Avp → List ℕ → ℕ → Found → Found → Outcome

@@ -74,6 +74,15 @@ pub record FirstAvp (xs : List Avp) (vendor code i : ℕ) : Type 0 where
   pub here : Stands (avpIn xs i) 1 vendor code
   pub before : (j : ℕ) → j < i → Stands (avpIn xs j) 1 vendor code → ⊥
 
+-- the first member with a vendor and code of the group at position k: it stands one deeper, and up to it the group has
+-- not ended
+pub record FirstMember (xs : List Avp) (k vendor code i : ℕ) : Type 0 where
+  pub behind : k < i
+  pub within : i < length xs
+  pub here : Stands (avpIn xs i) (avpIn xs k .depth + 1) vendor code
+  pub inside : (j : ℕ) → k < j → j ≤ i → avpIn xs k .depth < avpIn xs j .depth
+  pub before : (j : ℕ) → k < j → j < i → Stands (avpIn xs j) (avpIn xs k .depth + 1) vendor code → ⊥
+
 -- 01: there is none
 abbrev pub NoAvp : List Avp → ℕ → ℕ → Type 0
 NoAvp xs vendor code = (i : ℕ) → i < length xs → Stands (avpIn xs i) 1 vendor code → ⊥

@@ -1,6 +1,6 @@
 -- Time values (RFC 6733, clause 4.3.1) as request [5] has them: seconds in 32 bits, of which the upper half counts from
 -- 1900 and the lower half from 7 February 2036. Their order, and the number of seconds from one to another.
-use Prim.Native.Nat.{ℕ, _+_, _%_, _^_}
+use Prim.Native.Nat.{ℕ, _+_, _*_, _%_, _^_}
 use mathlib.Core.Bool.{Bool, cond}
 use lib.Dec.{ltb}
 use lib.IntN.{ℤ, pos, _-ℤ_}
@@ -24,7 +24,12 @@ seconds start end = pos (moment end) -ℤ pos (moment start)
 
 -- ---- what is claimed (proofs/demands/Times)
 
--- the seconds from 1 January 1900 to the moment of a Time: "by its extension a value with the top bit clear counts from
--- 7 February 2036, 06:28:16 UTC", which is 2 ^ 32 seconds later
+-- the seconds of the 49,710 days, 6 hours, 28 minutes and 16 seconds from the beginning of 1900 to 7 February 2036,
+-- 06:28:16 UTC; leap seconds are not counted, as in NTP
+abbrev pub upTo2036 : ℕ
+upTo2036 = 49710 * 86400 + 6 * 3600 + 28 * 60 + 16
+
+-- the seconds from the beginning of 1900 to the moment of a Time: "by its extension a value with the top bit clear
+-- counts from 7 February 2036, 06:28:16 UTC"
 abbrev pub since1900 : ℕ → ℕ
-since1900 time = cond (ltb time halfRange) (time + 2 ^ 32) time
+since1900 time = cond (ltb time (2 ^ 31)) (upTo2036 + time) time

@@ -1,5 +1,5 @@
-// The numbers of document 01 that are not AVP names: the Nt application and its command code, and the limits. Those of
-// a log and of a record at the boundary are this repository's own.
+// The numbers of documents 01 and 02 that are not AVP names: the Nt application and its command code, and the limits.
+// Those of a log and of a record at the boundary are this repository's own.
 
 pub const APPLICATION_NT: u32 = 16777348;
 

@@ -1,18 +1,19 @@
--- What a search finds: 01's first AVP at depth 1 with a vendor and code, and none exactly when there is none. One law
--- over `firstFrom` serves the search and the search among the members of a group.
+-- What a search finds: 01's first AVP at depth 1 with a vendor and code, and none exactly when there is none; and a
+-- search among the members of a group, the first of them. One law over `firstFrom` serves both.
 use mathlib.Core.Path.{_≡_, refl, sym, ap, _∙_}
 use mathlib.Core.Bool.{Bool, true, false}
 use mathlib.Core.Logic.{_↔_}
 use mathlib.Core.List.{List, [], _∷_}
-use Prim.Native.Nat.{ℕ, zero, suc, _+_, _≤_, _<_}
+use Prim.Native.Nat.{ℕ, zero, suc, _+_, _-_, _≤_, _<_}
 use native.Mathlib.Omega.{arith}
 use borrow.Author.Tests.{ltb-true, ltb-false, eqb-true, eq-eqb}
 use lib.Dec.{ltb, eqb}
-use lib.ListN.{length}
+use lib.ListN.{length, drop, length-drop}
+use lib.Seq.{getD-drop}
 use Rattle.rules.specs.declared.Avp.{Avp}
 use Rattle.rules.specs.declared.Found.{Found}
 use Rattle.rules.specs.declared.Found.the-variants.{At, Nothing}
-use Rattle.rules.specs.Search.{avpIn, isAt, firstFrom, search, positionOf, Inside, IsFirst, IsNone, Stands, FirstAvp, NoAvp}
+use Rattle.rules.specs.Search.{blank, avpIn, isAt, firstFrom, search, member, positionOf, Inside, IsFirst, IsNone, Stands, FirstAvp, FirstMember, NoAvp}
 use Rattle.rules.specs.Avp.{named}
 use Rattle.rules.proofs.Tests.{and-true}
 use Rattle.rules.proofs.Walk.{by-cases}
@@ -114,24 +115,31 @@ module _ (floor depth vendor code : ℕ) where
     none-missed n (found k f e) = absurd (not-both _ (f .here) (n k (f .within) (f .inside)))
     none-missed n (missed m e) = e
 
+    found-behind : (j : ℕ) → firstFrom i floor depth xs vendor code ≡ At j → Ends i xs → (k : ℕ) × (i + k ≡ j)
+    found-behind j e (found k f g) = (k, ap positionOf (sym g ∙ e))
+    found-behind j e (missed n g) = not-nothing (sym e ∙ g)
+
     -- counted from i, it gives a position exactly when that is the first, and `Nothing` exactly when there is none
     pub first-is : (k : ℕ)
         → (firstFrom i floor depth xs vendor code ≡ At (i + k)) ↔ IsFirst floor depth xs vendor code k
     first-is k = (λ e. found-is k e (ends i xs), λ f. first-is-found k f (ends i xs))
 
+    first-behind : (j : ℕ) → firstFrom i floor depth xs vendor code ≡ At j → (k : ℕ) × (i + k ≡ j)
+    first-behind j e = found-behind j e (ends i xs)
+
     pub none-is : (firstFrom i floor depth xs vendor code ≡ Nothing) ↔ IsNone floor depth xs vendor code
     none-is = (λ e. missed-none e (ends i xs), λ n. none-missed n (ends i xs))
 
--- ---- the search
+-- ---- what an AVP's test tells
 
 module _ (a : Avp) (depth vendor code : ℕ) where
-  pub stands : isAt a depth vendor code ≡ true → Stands a depth vendor code
+  stands : isAt a depth vendor code ≡ true → Stands a depth vendor code
   stands e =
       let x = and-true (eqb (a .depth) depth) (named a vendor code) e in
       let y = and-true (eqb (a .vendor) vendor) (eqb (a .code) code) (x .1) in
       record { depth-is = eqb-true _ _ (x .0); vendor-is = eqb-true _ _ (y .0); code-is = eqb-true _ _ (y .1) }
 
-  pub is-at : Stands a depth vendor code → isAt a depth vendor code ≡ true
+  is-at : Stands a depth vendor code → isAt a depth vendor code ≡ true
   is-at s =
       rw (
         eq-eqb (a .depth) depth (s .depth-is),
@@ -142,8 +150,10 @@ module _ (a : Avp) (depth vendor code : ℕ) where
   not-stands : isAt a depth vendor code ≡ false → Stands a depth vendor code → ⊥
   not-stands e s = not-both (isAt a depth vendor code) (is-at s) e
 
-  pub not-at : (Stands a depth vendor code → ⊥) → isAt a depth vendor code ≡ false
+  not-at : (Stands a depth vendor code → ⊥) → isAt a depth vendor code ≡ false
   not-at n = by-cases (isAt a depth vendor code) (λ h. absurd (n (stands h))) (λ h. h)
+
+-- ---- the search
 
 -- "A search gives the first AVP at depth 1 with a vendor and code, as its position".
 -- Carried by first-is.
@@ -181,3 +191,62 @@ search-none xs vendor code =
       λ e i h. not-stands (avpIn xs i) 1 vendor code (l .0 e i h (λ j k. omega arith)),
       λ n. l .1 (λ i h inside. not-at (avpIn xs i) 1 vendor code (n i h)),
     )
+
+-- ---- a member of a group
+
+module _ (xs : List Avp) (k vendor code i : ℕ) where
+  abbrev inner : ℕ
+  inner = avpIn xs k .depth + 1
+
+  -- a position counted from k + 1, and one behind k
+  counted : (j : ℕ) → avpIn (drop (k + 1) xs) j ≡ avpIn xs (k + 1 + j)
+  counted j = getD-drop (k + 1) xs j blank
+
+  behind : (j : ℕ) → k < j → avpIn (drop (k + 1) xs) (j - (k + 1)) ≡ avpIn xs j
+  behind j h =
+      let q : k + 1 + (j - (k + 1)) ≡ j = omega arith in
+      counted (j - (k + 1)) ∙ ap (avpIn xs) q
+
+  member-there : k < i → IsFirst inner inner (drop (k + 1) xs) vendor code (i - (k + 1))
+      → FirstMember xs k vendor code i
+  member-there h f =
+      let n = length-drop (k + 1) xs in
+      let w = f .within in
+      record {
+        behind = h;
+        within = omega arith;
+        here = stands (avpIn xs i) inner vendor code (rw (behind i h) at (f .here));
+        inside = λ j l m.
+            let d : inner ≤ avpIn xs j .depth = rw (behind j l) at (f .inside (j - (k + 1)) (omega arith)) in
+            omega arith;
+        before = λ j l m.
+            not-stands (avpIn xs j) inner vendor code (rw (behind j l) at (f .before (j - (k + 1)) (omega arith)));
+      }
+
+  first-there : FirstMember xs k vendor code i → IsFirst inner inner (drop (k + 1) xs) vendor code (i - (k + 1))
+  first-there f =
+      let b = f .behind in
+      let w = f .within in
+      record {
+        within = rw (length-drop (k + 1) xs) (omega arith);
+        here = rw (behind i b) (is-at (avpIn xs i) inner vendor code (f .here));
+        before = λ j h.
+            let other = f .before (k + 1 + j) (omega arith) (omega arith) in
+            rw (counted j) (not-at (avpIn xs (k + 1 + j)) inner vendor code other);
+        inside = λ j h. rw (counted j) (omega (arith, f .inside (k + 1 + j) (omega arith) (omega arith)));
+      }
+
+  -- the search among the members of a group: the exchange rules go by it.
+  -- Carried by first-is.
+  -- Ruled out: one that takes a member of an inner group; one that goes on behind the group's end.
+  pub member-first : (member xs k inner vendor code ≡ At i) ↔ FirstMember xs k vendor code i
+  member-first =
+      let l = first-is inner inner vendor code (k + 1) (drop (k + 1) xs) (i - (k + 1)) in (
+        λ e.
+            let b = first-behind inner inner vendor code (k + 1) (drop (k + 1) xs) i e in
+            let q : i ≡ k + 1 + (i - (k + 1)) = omega (arith, b .1) in
+            member-there (omega (arith, b .1)) (l .0 (e ∙ ap At q)),
+        λ f.
+            let q : k + 1 + (i - (k + 1)) ≡ i = omega (arith, f .behind) in
+            l .1 (first-there f) ∙ ap At q,
+      )

@@ -1,17 +1,15 @@
 -- Request [5]: Time values. Their moments and the seconds between them are those of RFC 6733's extension, and the laws
 -- of that number. Above each: the words of 02 that it meets, what carries it, and wrong systems that it rules out. The
 -- definitions stand in rules/specs/Times.
-use mathlib.Core.Path.{_≡_, refl, sym, ap, _∙_}
+use mathlib.Core.Path.{_≡_}
 use mathlib.Core.Logic.{_↔_}
-use mathlib.Core.Bool.{true, false}
-use Prim.Native.Nat.{ℕ, _+_, _-_, _%_, _^_, _≤_, _<_}
-use native.Mathlib.Nat.{mod-lt, mod-eq-of-lt, add-mod-right}
+use Prim.Native.Nat.{ℕ, _+_, _^_, _<_}
 use native.Mathlib.Omega.{arith}
 use borrow.Author.Tests.{ltb-true, ltb-false}
 use lib.Dec.{ltb}
 use lib.IntN.{pos, negℤ, _-ℤ_, +ℤ-invr}
 use lib.Signed.{ltZ, _≤ℤ_}
-use Rattle.rules.specs.Times.{halfRange, moment, isBefore, seconds, since1900}
+use Rattle.rules.specs.Times.{moment, isBefore, seconds, since1900}
 use Rattle.rules.proofs.Walk.{by-cases}
 use Rattle.rules.proofs.Differences.{difference-above, difference-zero, difference-least, difference-most, difference-exchanged, difference-moved}
 
@@ -19,42 +17,23 @@ use Rattle.rules.proofs.Differences.{difference-above, difference-zero,
 
 pub moment-below : (time : ℕ) → moment time < 2 ^ 32
 unfolding moment
-moment-below time = mod-lt (time + halfRange) (omega arith)
-
--- in the upper half there is a carry, in the lower half there is none
-upper : (time : ℕ) → time < 2 ^ 32 → halfRange ≤ time → moment time + halfRange ≡ time
-unfolding moment
-upper time h k =
-    let split : time + halfRange ≡ (time - halfRange) + 2 ^ 32 = omega arith in
-    let low : (time - halfRange) % 2 ^ 32 ≡ time - halfRange = mod-eq-of-lt (omega arith) in
-    rw (split, add-mod-right (time - halfRange) (2 ^ 32), low) (omega arith)
-
-lower : (time : ℕ) → time < halfRange → moment time + halfRange ≡ time + 2 ^ 32
-unfolding moment
-lower time h =
-    let whole : (time + halfRange) % 2 ^ 32 ≡ time + halfRange = mod-eq-of-lt (omega arith) in
-    rw whole (omega arith)
+moment-below time = omega arith
 
 -- "by its extension a value with the top bit clear counts from 7 February 2036, 06:28:16 UTC": moments are counted from
--- 2,147,483,648 seconds after 1900.
+-- 2 ^ 31 seconds after 1900.
 -- Carried by the definition of moment.
--- Ruled out: moments that are the raw numbers; a turn at another number than 2,147,483,648.
-pub request-5-moment : (time : ℕ) → time < 2 ^ 32 → moment time + halfRange ≡ since1900 time
+-- Ruled out: moments that are the raw numbers; an order that breaks at another number than 2,147,483,648.
+pub request-5-moment : (time : ℕ) → time < 2 ^ 32 → moment time + 2 ^ 31 ≡ since1900 time
+unfolding moment
 request-5-moment time h =
-    by-cases (ltb time halfRange)
-    (λ k. rw k (lower time (ltb-true time halfRange k)))
-    (λ k. rw k (upper time h (ltb-false time halfRange k)))
+    by-cases (ltb time (2 ^ 31))
+    (λ k. let l = ltb-true time (2 ^ 31) k in rw k (omega arith))
+    (λ k. let l = ltb-false time (2 ^ 31) k in rw k (omega arith))
 
 -- two Time values of one moment are the same
 one-moment : (a b : ℕ) → a < 2 ^ 32 → b < 2 ^ 32 → moment a ≡ moment b → a ≡ b
-one-moment a b h k e =
-    let same : since1900 a ≡ since1900 b =
-    sym (request-5-moment a h) ∙ ap (λ (n : ℕ). n + halfRange) e ∙ request-5-moment b k in
-    by-cases (ltb a halfRange)
-    (λ x. by-cases (ltb b halfRange) (λ y. let z : a + 2 ^ 32 ≡ b + 2 ^ 32 = rw (x, y) at same in omega arith)
-    (λ y. let z : a + 2 ^ 32 ≡ b = rw (x, y) at same in absurd (omega arith)))
-    (λ x. by-cases (ltb b halfRange) (λ y. let z : a ≡ b + 2 ^ 32 = rw (x, y) at same in absurd (omega arith))
-    (λ y. let z : a ≡ b = rw (x, y) at same in z))
+unfolding moment
+one-moment a b h k e = omega arith
 
 -- ---- the number of seconds
 
@@ -66,11 +45,12 @@ module _ (start end : ℕ) where
       → seconds start end ≡ pos (since1900 end) -ℤ pos (since1900 start)
   unfolding seconds
   request-5-seconds h k =
-      rw (← request-5-moment start h, ← request-5-moment end k) (difference-moved (moment end) (moment start) halfRange)
+      rw (← request-5-moment start h, ← request-5-moment end k) (difference-moved (moment end) (moment start) (2 ^ 31))
 
   -- "0 for equal ones", and for no others.
-  -- Carried by request-5-moment and difference-zero (Differences).
-  -- Ruled out: a number that counts both ends of a window; a number of 32 bits, which is 0 after a whole turn.
+  -- Carried by one-moment and difference-zero (Differences).
+  -- Ruled out: a number that counts both ends of a window; an add that stays at the greatest number, so that the
+  -- upper half is one moment.
   pub request-5-equal : start < 2 ^ 32 → end < 2 ^ 32 → (seconds start end ≡ pos 0) ↔ (start ≡ end)
   unfolding seconds
   request-5-equal h k = (
@@ -80,14 +60,14 @@ module _ (start end : ℕ) where
 
   -- "negative for a reversed window": the opposite when the two are exchanged.
   -- Carried by difference-exchanged (Differences).
-  -- Ruled out: a number without a sign; one that is -2,147,483,648 both ways.
+  -- Ruled out: a number without a sign; one of 32 bits, which is -2,147,483,648 both ways.
   pub request-5-exchanged : seconds end start ≡ negℤ (seconds start end)
   unfolding seconds
   request-5-exchanged = difference-exchanged (moment end) (moment start)
 
   -- "between -4,294,967,295 and 4,294,967,295".
   -- Carried by the bound of a moment.
-  -- Ruled out: a difference of moments that no carry was dropped from; one that is taken modulo 2 ^ 33.
+  -- Ruled out: the extension the other way round, by which 0 to 4,294,967,295 would be 8,589,934,591; milliseconds.
   pub request-5-bounds : (negℤ (pos 4294967295) ≤ℤ seconds start end) × (seconds start end ≤ℤ pos 4294967295)
   unfolding seconds
   request-5-bounds =
