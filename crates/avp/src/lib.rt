@@ -11,7 +11,7 @@ ghost use Rattle.avp.specs.Names.{IsNameNumber};
 use rules::Avp;
 use rules::Outcome;
 use rules::Verdict;
-use rules::kinds::NO_VENDOR;
+use rules::limits::NO_VENDOR;
 
 // All numbers 0: an unused place of the record.
 pub fn blank() -> Avp

@@ -6,8 +6,10 @@ ghost use Prim.Native.Nat.{_-_, _≤_, _<_};
 ghost use lib.ListN.{length};
 ghost use Rattle.rules.specs.Command.{commandVerdict};
 ghost use Rattle.rules.specs.Book.{isCut, isBook, commandIn, acceptance};
+ghost use Rattle.dictionary.specs.Table.{IsTable};
 ghost use Rattle.lines.specs.Promise.{Put, PutWithin};
 ghost use Rattle.book.specs.Promise.{ListingPut, HeadPut, linesOf, room};
+use dictionary::plain;
 use rules::Verdict;
 use rules::limits;
 
@@ -28,12 +30,18 @@ fn is_cut(book: &[u8], offset: usize) -> bool
 }
 
 // The verdict on the command at an offset, which is cut by its length field alone.
-fn verdict_at(book: &[u8], offset: usize, log: &mut [u32; limits::LOG_NUMBERS]) -> Verdict
-    requires { ⌜ (offset < length (now book)) × (isCut (now book) offset ≡ false) ⌝ }
+fn verdict_at(
+    book: &[u8],
+    offset: usize,
+    codes: &[u8; plain::PLAIN_CODES],
+    log: &mut [u32; limits::LOG_NUMBERS],
+) -> Verdict
+    requires place { ⌜ (offset < length (now book)) × (isCut (now book) offset ≡ false) ⌝ }
+    requires table { ⌜ IsTable (now codes) ⌝ }
     ensures { λ r. ⌜ r ≡ commandVerdict (commandIn (now (book .entry)) offset) ⌝ }
 {
     let end = offset + octets::number3(book, offset + 1) as usize;
-    reader::verdict(&book[offset..end], log)
+    reader::verdict_by(&book[offset..end], codes, log)
 }
 
 fn acceptance_of(v: Verdict) -> u64
@@ -45,14 +53,17 @@ fn acceptance_of(v: Verdict) -> u64
     0
 }
 
-// The lines behind the head line: one for each command, then `end` or a cut.
+// The lines behind the head line, by the table of plain codes, which is made once a book: one line for each command, then
+// `end` or a cut.
 fn put_lines(
     book: &[u8],
     out: &mut [u8; limits::LISTING_ROOM],
     start: usize,
+    codes: &[u8; plain::PLAIN_CODES],
     log: &mut [u32; limits::LOG_NUMBERS],
 ) -> usize
-    requires { ⌜ HeadPut (now book) start ⌝ }
+    requires head { ⌜ HeadPut (now book) start ⌝ }
+    requires table { ⌜ IsTable (now codes) ⌝ }
     ensures { λ r. ⌜ PutWithin (room - 6) (now (out .entry)) start (linesOf (now (book .entry))) r (now (out .exit)) ⌝ }
 {
     let mut at = start;
@@ -63,7 +74,7 @@ fn put_lines(
         if is_cut(book, offset) {
             return lines::put_cut_line(out, at, commands + 1, offset as u64);
         }
-        let v = verdict_at(book, offset, log);
+        let v = verdict_at(book, offset, codes, log);
         commands += 1;
         at = lines::put_command_line(out, at, commands, offset as u64, v);
         accepted += acceptance_of(v);
@@ -101,9 +112,10 @@ pub fn listing(book: &[u8], out: &mut [u8; limits::LISTING_ROOM]) -> usize
     ensures { λ r. ⌜ ListingPut (now (book .entry)) (now (out .entry)) r (now (out .exit)) ⌝ }
 {
     if is_book(book) {
+        let codes = dictionary::plain_codes();
         let mut log = [0u32; limits::LOG_NUMBERS];
         let start = put_first_line(out, b"NTB 1\n");
-        return put_lines(book, out, start, &mut log);
+        return put_lines(book, out, start, &codes, &mut log);
     }
     put_first_line(out, b"not a book\n")
 }

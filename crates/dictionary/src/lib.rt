@@ -1,154 +1,288 @@
-// 01, Dictionary, as a search by Vendor-Id and AVP code. Codes and widths are the constants of the kinds; each arm of a
-// `match` stands for one entry.
+// 01, Dictionary: the number of a name's entry, by a search or, for plain codes, by the constant table of request [6]; and
+// what an entry says. Each arm of a `match` stands for one kind, by its constants.
 ghost use mathlib.Core.Path.{_≡_};
+ghost use mathlib.Core.Bool.{cond};
+ghost use lib.Dec.{eqb};
 ghost use Rattle.rules.specs.Verdict.{Answers};
-ghost use Rattle.rules.specs.Header.{vendor3GPP};
-ghost use Rattle.rules.specs.Dictionary.{find, dictionary, membersOf, rowsNumber, printed};
+ghost use Rattle.rules.specs.Dictionary.{find, dictionary, requiresM, isKnown, membersOf, isGroup, rowsNumber, printed};
 ghost use Rattle.rules.specs.Meaning.{isReadGroup};
-use rules::Definition;
-use rules::Form;
+ghost use Rattle.dictionary.specs.Entries.{entryOf, withCode, vendorAt, definitionAt};
+ghost use Rattle.dictionary.specs.Table.{plainEntry, entryBy, IsTable};
 use rules::Grammar;
 use rules::Members;
-use rules::kinds;
+use rules::limits;
 
-// Entries by the form of the data; `m` says that M must be set.
-fn any(m: bool) -> Definition
-    ensures { λ r. ⌜ r ≡ Definition.Known m Form.Any ⌝ }
-{
-    Definition::Known { m, form: Form::Any }
-}
+pub mod kinds;
+pub mod plain;
 
-fn fixed(m: bool, width: u32) -> Definition
-    ensures { λ r. ⌜ r ≡ Definition.Known m (Form.Fixed width) ⌝ }
-{
-    Definition::Known {
-        m,
-        form: Form::Fixed(width),
-    }
-}
-
-fn group(m: bool, grammar: Grammar) -> Definition
-    ensures { λ r. ⌜ r ≡ Definition.Known m (Form.Group grammar) ⌝ }
-{
-    Definition::Known {
-        m,
-        form: Form::Group(grammar),
-    }
-}
-
-// The entries of RFC 6733, RFC 4006 and the others without vendor.
-fn definition_without_vendor(code: u32) -> Definition
-    ensures { λ r. ⌜ r ≡ find dictionary 0 code ⌝ }
+// The entry that has a code; no two have the same one.
+fn entry_with_code(code: u32) -> u8
+    ensures { λ r. ⌜ r ≡ withCode dictionary code ⌝ }
 {
     match code {
-        kinds::AuthApplicationId::CODE => fixed(true, kinds::AuthApplicationId::WIDTH),
-        kinds::AcctApplicationId::CODE => fixed(true, kinds::AcctApplicationId::WIDTH),
-        kinds::RedirectHostUsage::CODE => fixed(true, kinds::RedirectHostUsage::WIDTH),
-        kinds::RedirectMaxCacheTime::CODE => fixed(true, kinds::RedirectMaxCacheTime::WIDTH),
-        kinds::VendorId::CODE => fixed(true, kinds::VendorId::WIDTH),
-        kinds::ResultCode::CODE => fixed(true, kinds::ResultCode::WIDTH),
-        kinds::AuthSessionState::CODE => fixed(true, kinds::AuthSessionState::WIDTH),
-        kinds::OriginStateId::CODE => fixed(true, kinds::OriginStateId::WIDTH),
-        kinds::ExperimentalResultCode::CODE => fixed(true, kinds::ExperimentalResultCode::WIDTH),
-        kinds::SessionId::CODE => any(true),
-        kinds::OriginHost::CODE => any(true),
-        kinds::OriginRealm::CODE => any(true),
-        kinds::DestinationHost::CODE => any(true),
-        kinds::DestinationRealm::CODE => any(true),
-        kinds::RedirectHost::CODE => any(true),
-        kinds::ProxyHost::CODE => any(true),
-        kinds::ProxyState::CODE => any(true),
-        kinds::RouteRecord::CODE => any(true),
-        kinds::FailedAvp::CODE => any(true),
-        kinds::ErrorMessage::CODE => any(false),
-        kinds::ErrorReportingHost::CODE => any(false),
-        kinds::VendorSpecificApplicationId::CODE => group(
-            true,
-            Grammar::VendorSpecificApplicationId,
-        ),
-        kinds::ExperimentalResult::CODE => group(true, Grammar::ExperimentalResult),
-        kinds::ProxyInfo::CODE => group(true, Grammar::ProxyInfo),
-        kinds::RatingGroup::CODE => fixed(true, kinds::RatingGroup::WIDTH),
-        kinds::CcInputOctets::CODE => fixed(true, kinds::CcInputOctets::WIDTH),
-        kinds::CcOutputOctets::CODE => fixed(true, kinds::CcOutputOctets::WIDTH),
-        kinds::CcTotalOctets::CODE => fixed(true, kinds::CcTotalOctets::WIDTH),
-        kinds::Drmp::CODE => fixed(false, kinds::Drmp::WIDTH),
-        kinds::OcSupportedFeatures::CODE => any(false),
-        kinds::OcOlr::CODE => any(false),
-        kinds::Load::CODE => any(false),
-        _ => Definition::Unknown,
+        kinds::AuthApplicationId::CODE => kinds::AuthApplicationId::ENTRY,
+        kinds::AcctApplicationId::CODE => kinds::AcctApplicationId::ENTRY,
+        kinds::RedirectHostUsage::CODE => kinds::RedirectHostUsage::ENTRY,
+        kinds::RedirectMaxCacheTime::CODE => kinds::RedirectMaxCacheTime::ENTRY,
+        kinds::VendorId::CODE => kinds::VendorId::ENTRY,
+        kinds::ResultCode::CODE => kinds::ResultCode::ENTRY,
+        kinds::AuthSessionState::CODE => kinds::AuthSessionState::ENTRY,
+        kinds::OriginStateId::CODE => kinds::OriginStateId::ENTRY,
+        kinds::ExperimentalResultCode::CODE => kinds::ExperimentalResultCode::ENTRY,
+        kinds::SessionId::CODE => kinds::SessionId::ENTRY,
+        kinds::OriginHost::CODE => kinds::OriginHost::ENTRY,
+        kinds::OriginRealm::CODE => kinds::OriginRealm::ENTRY,
+        kinds::DestinationHost::CODE => kinds::DestinationHost::ENTRY,
+        kinds::DestinationRealm::CODE => kinds::DestinationRealm::ENTRY,
+        kinds::RedirectHost::CODE => kinds::RedirectHost::ENTRY,
+        kinds::ProxyHost::CODE => kinds::ProxyHost::ENTRY,
+        kinds::ProxyState::CODE => kinds::ProxyState::ENTRY,
+        kinds::RouteRecord::CODE => kinds::RouteRecord::ENTRY,
+        kinds::FailedAvp::CODE => kinds::FailedAvp::ENTRY,
+        kinds::ErrorMessage::CODE => kinds::ErrorMessage::ENTRY,
+        kinds::ErrorReportingHost::CODE => kinds::ErrorReportingHost::ENTRY,
+        kinds::VendorSpecificApplicationId::CODE => kinds::VendorSpecificApplicationId::ENTRY,
+        kinds::ExperimentalResult::CODE => kinds::ExperimentalResult::ENTRY,
+        kinds::ProxyInfo::CODE => kinds::ProxyInfo::ENTRY,
+        kinds::RatingGroup::CODE => kinds::RatingGroup::ENTRY,
+        kinds::CcInputOctets::CODE => kinds::CcInputOctets::ENTRY,
+        kinds::CcOutputOctets::CODE => kinds::CcOutputOctets::ENTRY,
+        kinds::CcTotalOctets::CODE => kinds::CcTotalOctets::ENTRY,
+        kinds::Drmp::CODE => kinds::Drmp::ENTRY,
+        kinds::OcSupportedFeatures::CODE => kinds::OcSupportedFeatures::ENTRY,
+        kinds::OcOlr::CODE => kinds::OcOlr::ENTRY,
+        kinds::Load::CODE => kinds::Load::ENTRY,
+        kinds::FeatureListId::CODE => kinds::FeatureListId::ENTRY,
+        kinds::FeatureList::CODE => kinds::FeatureList::ENTRY,
+        kinds::ApplicationServiceProviderIdentity::CODE =>
+            kinds::ApplicationServiceProviderIdentity::ENTRY,
+        kinds::PcrfAddress::CODE => kinds::PcrfAddress::ENTRY,
+        kinds::SupportedFeatures::CODE => kinds::SupportedFeatures::ENTRY,
+        kinds::MaxRequestedBandwidthDl::CODE => kinds::MaxRequestedBandwidthDl::ENTRY,
+        kinds::MaxRequestedBandwidthUl::CODE => kinds::MaxRequestedBandwidthUl::ENTRY,
+        kinds::TransferRequestType::CODE => kinds::TransferRequestType::ENTRY,
+        kinds::TransferEndTime::CODE => kinds::TransferEndTime::ENTRY,
+        kinds::TransferStartTime::CODE => kinds::TransferStartTime::ENTRY,
+        kinds::TransferPolicyId::CODE => kinds::TransferPolicyId::ENTRY,
+        kinds::NumberOfUes::CODE => kinds::NumberOfUes::ENTRY,
+        kinds::NetworkAreaInfoList::CODE => kinds::NetworkAreaInfoList::ENTRY,
+        kinds::ReferenceId::CODE => kinds::ReferenceId::ENTRY,
+        kinds::TimeWindow::CODE => kinds::TimeWindow::ENTRY,
+        kinds::TransferPolicy::CODE => kinds::TransferPolicy::ENTRY,
+        _ => kinds::NO_ENTRY,
     }
 }
 
-// The entries of 3GPP.
-fn definition_of_3gpp(code: u32) -> Definition
-    ensures { λ r. ⌜ r ≡ find dictionary vendor3GPP code ⌝ }
+// The Vendor-Id of an entry, none where the number is no entry's.
+pub fn vendor_of(entry: u8) -> u32
+    ensures { λ r. ⌜ r ≡ vendorAt dictionary entry ⌝ }
 {
-    match code {
-        kinds::FeatureListId::CODE => fixed(false, kinds::FeatureListId::WIDTH),
-        kinds::FeatureList::CODE => fixed(false, kinds::FeatureList::WIDTH),
-        kinds::ApplicationServiceProviderIdentity::CODE => any(false),
-        kinds::PcrfAddress::CODE => any(false),
-        kinds::SupportedFeatures::CODE => group(false, Grammar::SupportedFeatures),
-        kinds::MaxRequestedBandwidthDl::CODE => fixed(true, kinds::MaxRequestedBandwidthDl::WIDTH),
-        kinds::MaxRequestedBandwidthUl::CODE => fixed(true, kinds::MaxRequestedBandwidthUl::WIDTH),
-        kinds::TransferRequestType::CODE => fixed(true, kinds::TransferRequestType::WIDTH),
-        kinds::TransferEndTime::CODE => fixed(true, kinds::TransferEndTime::WIDTH),
-        kinds::TransferStartTime::CODE => fixed(true, kinds::TransferStartTime::WIDTH),
-        kinds::TransferPolicyId::CODE => fixed(true, kinds::TransferPolicyId::WIDTH),
-        kinds::NumberOfUes::CODE => fixed(true, kinds::NumberOfUes::WIDTH),
-        kinds::NetworkAreaInfoList::CODE => any(true),
-        kinds::ReferenceId::CODE => any(true),
-        kinds::TimeWindow::CODE => group(true, Grammar::TimeWindow),
-        kinds::TransferPolicy::CODE => group(true, Grammar::TransferPolicy),
-        _ => Definition::Unknown,
+    match entry {
+        kinds::AuthApplicationId::ENTRY => kinds::AuthApplicationId::VENDOR,
+        kinds::AcctApplicationId::ENTRY => kinds::AcctApplicationId::VENDOR,
+        kinds::RedirectHostUsage::ENTRY => kinds::RedirectHostUsage::VENDOR,
+        kinds::RedirectMaxCacheTime::ENTRY => kinds::RedirectMaxCacheTime::VENDOR,
+        kinds::VendorId::ENTRY => kinds::VendorId::VENDOR,
+        kinds::ResultCode::ENTRY => kinds::ResultCode::VENDOR,
+        kinds::AuthSessionState::ENTRY => kinds::AuthSessionState::VENDOR,
+        kinds::OriginStateId::ENTRY => kinds::OriginStateId::VENDOR,
+        kinds::ExperimentalResultCode::ENTRY => kinds::ExperimentalResultCode::VENDOR,
+        kinds::SessionId::ENTRY => kinds::SessionId::VENDOR,
+        kinds::OriginHost::ENTRY => kinds::OriginHost::VENDOR,
+        kinds::OriginRealm::ENTRY => kinds::OriginRealm::VENDOR,
+        kinds::DestinationHost::ENTRY => kinds::DestinationHost::VENDOR,
+        kinds::DestinationRealm::ENTRY => kinds::DestinationRealm::VENDOR,
+        kinds::RedirectHost::ENTRY => kinds::RedirectHost::VENDOR,
+        kinds::ProxyHost::ENTRY => kinds::ProxyHost::VENDOR,
+        kinds::ProxyState::ENTRY => kinds::ProxyState::VENDOR,
+        kinds::RouteRecord::ENTRY => kinds::RouteRecord::VENDOR,
+        kinds::FailedAvp::ENTRY => kinds::FailedAvp::VENDOR,
+        kinds::ErrorMessage::ENTRY => kinds::ErrorMessage::VENDOR,
+        kinds::ErrorReportingHost::ENTRY => kinds::ErrorReportingHost::VENDOR,
+        kinds::VendorSpecificApplicationId::ENTRY => kinds::VendorSpecificApplicationId::VENDOR,
+        kinds::ExperimentalResult::ENTRY => kinds::ExperimentalResult::VENDOR,
+        kinds::ProxyInfo::ENTRY => kinds::ProxyInfo::VENDOR,
+        kinds::RatingGroup::ENTRY => kinds::RatingGroup::VENDOR,
+        kinds::CcInputOctets::ENTRY => kinds::CcInputOctets::VENDOR,
+        kinds::CcOutputOctets::ENTRY => kinds::CcOutputOctets::VENDOR,
+        kinds::CcTotalOctets::ENTRY => kinds::CcTotalOctets::VENDOR,
+        kinds::Drmp::ENTRY => kinds::Drmp::VENDOR,
+        kinds::OcSupportedFeatures::ENTRY => kinds::OcSupportedFeatures::VENDOR,
+        kinds::OcOlr::ENTRY => kinds::OcOlr::VENDOR,
+        kinds::Load::ENTRY => kinds::Load::VENDOR,
+        kinds::FeatureListId::ENTRY => kinds::FeatureListId::VENDOR,
+        kinds::FeatureList::ENTRY => kinds::FeatureList::VENDOR,
+        kinds::ApplicationServiceProviderIdentity::ENTRY =>
+            kinds::ApplicationServiceProviderIdentity::VENDOR,
+        kinds::PcrfAddress::ENTRY => kinds::PcrfAddress::VENDOR,
+        kinds::SupportedFeatures::ENTRY => kinds::SupportedFeatures::VENDOR,
+        kinds::MaxRequestedBandwidthDl::ENTRY => kinds::MaxRequestedBandwidthDl::VENDOR,
+        kinds::MaxRequestedBandwidthUl::ENTRY => kinds::MaxRequestedBandwidthUl::VENDOR,
+        kinds::TransferRequestType::ENTRY => kinds::TransferRequestType::VENDOR,
+        kinds::TransferEndTime::ENTRY => kinds::TransferEndTime::VENDOR,
+        kinds::TransferStartTime::ENTRY => kinds::TransferStartTime::VENDOR,
+        kinds::TransferPolicyId::ENTRY => kinds::TransferPolicyId::VENDOR,
+        kinds::NumberOfUes::ENTRY => kinds::NumberOfUes::VENDOR,
+        kinds::NetworkAreaInfoList::ENTRY => kinds::NetworkAreaInfoList::VENDOR,
+        kinds::ReferenceId::ENTRY => kinds::ReferenceId::VENDOR,
+        kinds::TimeWindow::ENTRY => kinds::TimeWindow::VENDOR,
+        kinds::TransferPolicy::ENTRY => kinds::TransferPolicy::VENDOR,
+        _ => limits::NO_VENDOR,
     }
 }
 
-// What the dictionary says of a name.
-pub fn definition(vendor: u32, code: u32) -> Definition
-    ensures { λ r. ⌜ Answers printed (find dictionary vendor code) r ⌝ }
+// The search of the dictionary: the entry of a name.
+pub fn entry_of(vendor: u32, code: u32) -> u8
+    ensures { λ r. ⌜ r ≡ entryOf dictionary vendor code ⌝ }
+{
+    let entry = entry_with_code(code);
+    if vendor_of(entry) != vendor {
+        return kinds::NO_ENTRY;
+    }
+    entry
+}
+
+// The table of plain codes. A constant array is built anew where it is named, so the table is made once and lent.
+pub fn plain_codes() -> [u8; plain::PLAIN_CODES]
+    ensures { λ r. ⌜ IsTable r ⌝ }
+{
+    plain::TABLE
+}
+
+// What a table leads a code without vendor to.
+fn plain_entry(codes: &[u8; plain::PLAIN_CODES], code: u32) -> u8
+    ensures { λ r. ⌜ r ≡ plainEntry (now (codes .entry)) code ⌝ }
+{
+    let place = code as usize;
+    if plain::PLAIN_CODES <= place {
+        return kinds::NO_ENTRY;
+    }
+    codes[place]
+}
+
+// The entry of a name by a table of plain codes: a name without vendor through the table, others by the search. Where it
+// is the table above, the entry is that of the search.
+pub fn entry_by(codes: &[u8; plain::PLAIN_CODES], vendor: u32, code: u32) -> u8
+    ensures { λ r. ⌜ r ≡ entryBy (now (codes .entry)) vendor code ⌝ }
 {
     match vendor {
-        kinds::NO_VENDOR => definition_without_vendor(code),
-        kinds::VENDOR_3GPP => definition_of_3gpp(code),
-        _ => Definition::Unknown,
+        limits::NO_VENDOR => plain_entry(codes, code),
+        limits::VENDOR_3GPP => entry_of(limits::VENDOR_3GPP, code),
+        _ => kinds::NO_ENTRY,
     }
 }
 
-// The groups without vendor.
-fn members_without_vendor(code: u32) -> Members
-    ensures { λ r. ⌜ r ≡ membersOf (find dictionary 0 code) ⌝ }
+// Whether a number is an entry's.
+pub fn is_known(entry: u8) -> bool
+    ensures { λ r. ⌜ r ≡ isKnown (definitionAt dictionary entry) ⌝ }
 {
-    match code {
-        kinds::VendorSpecificApplicationId::CODE => Members::Under(
-            Grammar::VendorSpecificApplicationId,
-        ),
-        kinds::ExperimentalResult::CODE => Members::Under(Grammar::ExperimentalResult),
-        kinds::ProxyInfo::CODE => Members::Under(Grammar::ProxyInfo),
-        _ => Members::NoMembers,
-    }
+    entry < kinds::NO_ENTRY
 }
 
-// The groups of 3GPP.
-fn members_of_3gpp(code: u32) -> Members
-    ensures { λ r. ⌜ r ≡ membersOf (find dictionary vendor3GPP code) ⌝ }
+// Whether M must be set: for all entries but these.
+pub fn requires_m(entry: u8) -> bool
+    ensures { λ r. ⌜ r ≡ requiresM (definitionAt dictionary entry) ⌝ }
 {
-    match code {
-        kinds::SupportedFeatures::CODE => Members::Under(Grammar::SupportedFeatures),
-        kinds::TimeWindow::CODE => Members::Under(Grammar::TimeWindow),
-        kinds::TransferPolicy::CODE => Members::Under(Grammar::TransferPolicy),
-        _ => Members::NoMembers,
+    match entry {
+        kinds::ErrorMessage::ENTRY => false,
+        kinds::ErrorReportingHost::ENTRY => false,
+        kinds::Drmp::ENTRY => false,
+        kinds::OcSupportedFeatures::ENTRY => false,
+        kinds::OcOlr::ENTRY => false,
+        kinds::Load::ENTRY => false,
+        kinds::FeatureListId::ENTRY => false,
+        kinds::FeatureList::ENTRY => false,
+        kinds::ApplicationServiceProviderIdentity::ENTRY => false,
+        kinds::PcrfAddress::ENTRY => false,
+        kinds::SupportedFeatures::ENTRY => false,
+        _ => is_known(entry),
     }
 }
 
-// The rows that the members of a name's group go by. It looks at groups alone, so it is shorter than the whole search.
+// The width of the data where it is fixed, 0 where any length passes.
+pub fn width(entry: u8) -> u32
+    ensures { λ r. ⌜ r ≡ printed (definitionAt dictionary entry) .width ⌝ }
+{
+    match entry {
+        kinds::AuthApplicationId::ENTRY => kinds::AuthApplicationId::WIDTH,
+        kinds::AcctApplicationId::ENTRY => kinds::AcctApplicationId::WIDTH,
+        kinds::RedirectHostUsage::ENTRY => kinds::RedirectHostUsage::WIDTH,
+        kinds::RedirectMaxCacheTime::ENTRY => kinds::RedirectMaxCacheTime::WIDTH,
+        kinds::VendorId::ENTRY => kinds::VendorId::WIDTH,
+        kinds::ResultCode::ENTRY => kinds::ResultCode::WIDTH,
+        kinds::AuthSessionState::ENTRY => kinds::AuthSessionState::WIDTH,
+        kinds::OriginStateId::ENTRY => kinds::OriginStateId::WIDTH,
+        kinds::ExperimentalResultCode::ENTRY => kinds::ExperimentalResultCode::WIDTH,
+        kinds::RatingGroup::ENTRY => kinds::RatingGroup::WIDTH,
+        kinds::CcInputOctets::ENTRY => kinds::CcInputOctets::WIDTH,
+        kinds::CcOutputOctets::ENTRY => kinds::CcOutputOctets::WIDTH,
+        kinds::CcTotalOctets::ENTRY => kinds::CcTotalOctets::WIDTH,
+        kinds::Drmp::ENTRY => kinds::Drmp::WIDTH,
+        kinds::FeatureListId::ENTRY => kinds::FeatureListId::WIDTH,
+        kinds::FeatureList::ENTRY => kinds::FeatureList::WIDTH,
+        kinds::MaxRequestedBandwidthDl::ENTRY => kinds::MaxRequestedBandwidthDl::WIDTH,
+        kinds::MaxRequestedBandwidthUl::ENTRY => kinds::MaxRequestedBandwidthUl::WIDTH,
+        kinds::TransferRequestType::ENTRY => kinds::TransferRequestType::WIDTH,
+        kinds::TransferEndTime::ENTRY => kinds::TransferEndTime::WIDTH,
+        kinds::TransferStartTime::ENTRY => kinds::TransferStartTime::WIDTH,
+        kinds::TransferPolicyId::ENTRY => kinds::TransferPolicyId::WIDTH,
+        kinds::NumberOfUes::ENTRY => kinds::NumberOfUes::WIDTH,
+        _ => 0,
+    }
+}
+
+// Whether the data is read as a list.
+pub fn is_group(entry: u8) -> bool
+    ensures { λ r. ⌜ r ≡ isGroup (definitionAt dictionary entry) ⌝ }
+{
+    match entry {
+        kinds::VendorSpecificApplicationId::ENTRY => true,
+        kinds::ExperimentalResult::ENTRY => true,
+        kinds::ProxyInfo::ENTRY => true,
+        kinds::SupportedFeatures::ENTRY => true,
+        kinds::TimeWindow::ENTRY => true,
+        kinds::TransferPolicy::ENTRY => true,
+        _ => false,
+    }
+}
+
+// The rows of a group, where the vendor is the group's own.
+fn under(vendor: u32, own: u32, grammar: Grammar) -> Members
+    ensures { λ r. ⌜ r ≡ cond (eqb vendor own) (Members.Under grammar) Members.NoMembers ⌝ }
+{
+    if vendor == own {
+        return Members::Under(grammar);
+    }
+    Members::NoMembers
+}
+
+// The rows that the members of a name's group go by. It looks at groups alone, so it is shorter than the search.
 pub fn members(vendor: u32, code: u32) -> Members
     ensures { λ r. ⌜ Answers rowsNumber (membersOf (find dictionary vendor code)) r ⌝ }
 {
-    match vendor {
-        kinds::NO_VENDOR => members_without_vendor(code),
-        kinds::VENDOR_3GPP => members_of_3gpp(code),
+    match code {
+        kinds::VendorSpecificApplicationId::CODE => under(
+            vendor,
+            kinds::VendorSpecificApplicationId::VENDOR,
+            Grammar::VendorSpecificApplicationId,
+        ),
+        kinds::ExperimentalResult::CODE => under(
+            vendor,
+            kinds::ExperimentalResult::VENDOR,
+            Grammar::ExperimentalResult,
+        ),
+        kinds::ProxyInfo::CODE => under(vendor, kinds::ProxyInfo::VENDOR, Grammar::ProxyInfo),
+        kinds::SupportedFeatures::CODE => under(
+            vendor,
+            kinds::SupportedFeatures::VENDOR,
+            Grammar::SupportedFeatures,
+        ),
+        kinds::TimeWindow::CODE => under(vendor, kinds::TimeWindow::VENDOR, Grammar::TimeWindow),
+        kinds::TransferPolicy::CODE => under(
+            vendor,
+            kinds::TransferPolicy::VENDOR,
+            Grammar::TransferPolicy,
+        ),
         _ => Members::NoMembers,
     }
 }

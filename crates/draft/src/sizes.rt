@@ -7,14 +7,13 @@ ghost use Rattle.rules.specs.Avp.{headerOf};
 ghost use Rattle.rules.specs.Walk.{mostAvps};
 ghost use Rattle.draft.specs.Promise.{IsFullSize, IsSizeAt, IsMembersSize};
 use rules::Avp;
-use rules::kinds::NO_VENDOR;
 use rules::limits;
 
 // V is set exactly when the vendor is not 0.
 fn header_size(vendor: u32) -> usize
     ensures { λ r. ⌜ r ≡ headerOf (not (eqb vendor 0)) ⌝ }
 {
-    if vendor == NO_VENDOR {
+    if vendor == limits::NO_VENDOR {
         return limits::AVP_HEADER_SIZE;
     }
     limits::AVP_HEADER_SIZE_WITH_VENDOR

@@ -1,5 +1,5 @@
 // Runs the commands of document 01, section "Commands at the edges", that are not marked (p), and further edges of its
-// clauses, through the reader, and the names of all AVP kinds through the dictionary. A line for each case: its label,
+// clauses, through the reader, and every code through the dictionary. A line for each case: its label,
 // number, place, Vendor-Id and code. The file `stdout` has what document 01 says must come out.
 mod case;
 mod exchange;
@@ -56,15 +56,11 @@ fn records() {
     record::of_refusal();
 }
 
+// Names without vendor, with a vendor that has no entry, and of 3GPP.
 fn dictionary_kinds() {
-    kinds::rfc_6733_numbers();
-    kinds::rfc_6733_any_length();
-    kinds::rfc_6733_groups();
-    kinds::rfc_4006();
-    kinds::m_free();
-    kinds::m_free_of_3gpp();
-    kinds::numbers_of_3gpp();
-    kinds::others_of_3gpp();
+    kinds::kinds_of(0);
+    kinds::kinds_of(10414);
+    kinds::kinds_of(10415);
 }
 
 fn main() {

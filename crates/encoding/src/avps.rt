@@ -10,7 +10,6 @@ ghost use Rattle.draft.specs.Drafts.{draftCell, headerFor};
 ghost use Rattle.encoding.specs.Promise.{IsPut, CanPut, CanPutAll, numberedList};
 use crate::flags;
 use rules::Avp;
-use rules::kinds::NO_VENDOR;
 use rules::limits;
 
 // An AVP's header, with the vendor where it is not 0.
@@ -20,7 +19,7 @@ fn put_header(out: &mut [u8], at: usize, a: Avp) -> usize
 {
     output::put_number4(out, at, a.code);
     out[at + 4] = flags::avp_flags(a);
-    if a.vendor == NO_VENDOR {
+    if a.vendor == limits::NO_VENDOR {
         output::put_number3(out, at + 5, limits::AVP_HEADER_SIZE + a.length as usize);
         return at + limits::AVP_HEADER_SIZE;
     }

@@ -9,7 +9,6 @@ ghost use Rattle.draft.specs.Drafts.{draftCell};
 ghost use Rattle.encoding.specs.Promise.{IsFlag};
 use rules::Avp;
 use rules::flags;
-use rules::kinds::NO_VENDOR;
 use rules::limits;
 
 fn flag(on: bool, value: u8) -> u8
@@ -25,7 +24,7 @@ fn flag(on: bool, value: u8) -> u8
 pub(crate) fn avp_flags(a: Avp) -> u8
     ensures { λ r. ⌜ ((s : List ℕ) → r ≡ avpFlags (draftCell s a)) ⌝ }
 {
-    flag(a.vendor != NO_VENDOR, flags::VENDOR)
+    flag(a.vendor != limits::NO_VENDOR, flags::VENDOR)
         + flag(a.m, flags::MANDATORY)
         + flag(a.p, flags::PROTECTED)
 }

@@ -14,15 +14,15 @@ use crate::search::present;
 use crate::search::require;
 use crate::search::search;
 use avp::member_fault;
+use dictionary::kinds::ExperimentalResult;
+use dictionary::kinds::PcrfAddress;
+use dictionary::kinds::RatingGroup;
+use dictionary::kinds::ReferenceId;
+use dictionary::kinds::ResultCode;
+use dictionary::kinds::TimeWindow;
+use dictionary::kinds::TransferPolicy;
 use rules::Found;
 use rules::Outcome;
-use rules::kinds::ExperimentalResult;
-use rules::kinds::PcrfAddress;
-use rules::kinds::RatingGroup;
-use rules::kinds::ReferenceId;
-use rules::kinds::ResultCode;
-use rules::kinds::TimeWindow;
-use rules::kinds::TransferPolicy;
 use rules::limits;
 
 // Result-Code or Experimental-Result, and not both.

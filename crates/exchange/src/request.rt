@@ -12,18 +12,18 @@ use crate::search::require;
 use crate::search::search;
 use avp::member_fault;
 use avp::refusal;
+use dictionary::kinds::ApplicationServiceProviderIdentity;
+use dictionary::kinds::CcInputOctets;
+use dictionary::kinds::CcOutputOctets;
+use dictionary::kinds::CcTotalOctets;
+use dictionary::kinds::DestinationHost;
+use dictionary::kinds::NumberOfUes;
+use dictionary::kinds::ReferenceId;
+use dictionary::kinds::TimeWindow;
+use dictionary::kinds::TransferPolicyId;
+use dictionary::kinds::TransferRequestType;
 use rules::Found;
 use rules::Outcome;
-use rules::kinds::ApplicationServiceProviderIdentity;
-use rules::kinds::CcInputOctets;
-use rules::kinds::CcOutputOctets;
-use rules::kinds::CcTotalOctets;
-use rules::kinds::DestinationHost;
-use rules::kinds::NumberOfUes;
-use rules::kinds::ReferenceId;
-use rules::kinds::TimeWindow;
-use rules::kinds::TransferPolicyId;
-use rules::kinds::TransferRequestType;
 use rules::limits;
 
 // The volume of a direction, uplink or downlink.

@@ -12,11 +12,11 @@ use crate::search::number_of;
 use crate::search::wide;
 use avp::member_fault;
 use avp::refusal;
+use dictionary::kinds::TimeWindow;
+use dictionary::kinds::TransferEndTime;
+use dictionary::kinds::TransferStartTime;
 use rules::Found;
 use rules::Outcome;
-use rules::kinds::TimeWindow;
-use rules::kinds::TransferEndTime;
-use rules::kinds::TransferStartTime;
 use rules::limits;
 use times::is_before;
 

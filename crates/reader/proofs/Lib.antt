@@ -1,3 +1,3 @@
 -- The laws behind the reader's proofs: a record's places, and a command's checks in order.
 mod Places
-mod Order
+pub mod Order

@@ -7,29 +7,39 @@ use Rattle.rules.specs.declared.Avp.{Avp}
 use Rattle.rules.specs.declared.Verdict.{Verdict}
 use Rattle.rules.specs.declared.Outcome.{Outcome}
 use Rattle.rules.specs.declared.Outcome.the-variants.{Pass, Refused}
-use Rattle.rules.specs.Verdict.{verdictOf}
+use Rattle.rules.specs.Verdict.{orElse, verdictOf}
 use Rattle.rules.specs.Header.{headerSize, headerOutcome}
+use Rattle.rules.specs.Dictionary.{Entry, dictionary}
 use Rattle.rules.specs.Walk.{mostAvps, avpsOf}
-use Rattle.rules.specs.Command.{walkOf, commandOutcome, commandVerdict}
+use Rattle.rules.specs.Command.{walkedOutcome, commandOutcome, commandVerdict}
+use Rattle.walk.specs.Promise.{walkBy}
 use Rattle.log.specs.Log.{avpsIn, putAvps}
 use Rattle.reader.specs.declared.Judgement.{Judgement}
 
--- the AVPs that a command's walk met; none where its header is refused
-abbrev pub metBy : List ℕ → Outcome → List Avp
-metBy s Pass = avpsOf (walkOf s)
-metBy s (Refused v) = []
+-- the outcome of a command whose walk goes by a dictionary
+unfoldable pub outcomeBy : List Entry → List ℕ → Outcome
+outcomeBy dict s = orElse (headerOutcome s) (walkedOutcome s (walkBy dict s))
+
+-- the AVPs that such a walk met; none where the header is refused
+abbrev pub metBy : List Entry → List ℕ → Outcome → List Avp
+metBy dict s Pass = avpsOf (walkBy dict s)
+metBy dict s (Refused v) = []
 
 -- a log after a command was judged: the AVPs that its walk met, from position 0 on
-unfoldable pub logAfter : List ℕ → List ℕ → List ℕ
-logAfter s before = putAvps before 0 (metBy s (headerOutcome s))
+unfoldable pub logAfterBy : List Entry → List ℕ → List ℕ → List ℕ
+logAfterBy dict s before = putAvps before 0 (metBy dict s (headerOutcome s))
 
--- what judging a command gives, and for an accepted one its AVPs
-pub record IsJudged (s before : List ℕ) (r : Judgement) (after : List ℕ) : Type 0 where
-  pub outcome : r .outcome ≡ commandOutcome s
-  pub left : after ≡ logAfter s before
-  pub long : commandOutcome s ≡ Pass → headerSize ≤ length s
-  pub few : commandOutcome s ≡ Pass → r .count ≤ mostAvps
-  pub avps : commandOutcome s ≡ Pass → avpsIn after (r .count) ≡ avpsOf (walkOf s)
+-- the same by document 01's dictionary
+abbrev pub logAfter : List ℕ → List ℕ → List ℕ
+logAfter = logAfterBy dictionary
+
+-- what judging a command by a dictionary gives, and for an accepted one its AVPs
+pub record IsJudged (dict : List Entry) (s before : List ℕ) (r : Judgement) (after : List ℕ) : Type 0 where
+  pub outcome : r .outcome ≡ outcomeBy dict s
+  pub left : after ≡ logAfterBy dict s before
+  pub long : outcomeBy dict s ≡ Pass → headerSize ≤ length s
+  pub few : outcomeBy dict s ≡ Pass → r .count ≤ mostAvps
+  pub avps : outcomeBy dict s ≡ Pass → avpsIn after (r .count) ≡ avpsOf (walkBy dict s)
 
 -- what `outcome` gives
 pub record Settled (s before : List ℕ) (r : Outcome) (after : List ℕ) : Type 0 where
@@ -41,3 +51,8 @@ pub record Settled (s before : List ℕ) (r : Outcome) (after : List ℕ) : Type
 pub record Judged (s before : List ℕ) (r : Verdict) (after : List ℕ) : Type 0 where
   pub answer : r ≡ commandVerdict s
   pub left : after ≡ logAfter s before
+
+-- what `verdict_by` gives
+pub record JudgedBy (dict : List Entry) (s before : List ℕ) (r : Verdict) (after : List ℕ) : Type 0 where
+  pub answer : r ≡ verdictOf (outcomeBy dict s)
+  pub left : after ≡ logAfterBy dict s before

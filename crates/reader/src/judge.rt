@@ -2,12 +2,15 @@
 ghost use mathlib.Core.Path.{_≡_};
 ghost use Prim.Native.Nat.{_≤_};
 ghost use lib.ListN.{length};
-ghost use Rattle.rules.specs.Header.{headerSize, longestCommand};
+ghost use Rattle.rules.specs.Header.{headerSize, longestCommand, headerOutcome};
+ghost use Rattle.rules.specs.Dictionary.{dictionary};
 ghost use Rattle.rules.specs.Command.{commandGrammar, listsOutcome};
+ghost use Rattle.dictionary.specs.Table.{dictionaryBy};
 ghost use Rattle.log.specs.Log.{avpsIn};
 ghost use Rattle.reader.specs.Promise.{IsJudged};
 use crate::Judgement;
 use crate::header;
+use dictionary::plain;
 use octets::has_flag;
 use rules::Grammar;
 use rules::Outcome;
@@ -40,18 +43,16 @@ fn lists_outcome(s: &[u8], log: &[u32; limits::LOG_NUMBERS], count: usize) -> Ou
     exchange::judge(request, s, log, count, end)
 }
 
-// A command judged into a lent log.
-pub(crate) fn judge(s: &[u8], log: &mut [u32; limits::LOG_NUMBERS]) -> Judgement
-    ensures { λ r. ⌜ IsJudged (now (s .entry)) (now (log .entry)) r (now (log .exit)) ⌝ }
+// The AVPs of a command whose header passed: its walk by a table of plain codes, into a lent log, then its lists.
+fn judge_avps(
+    s: &[u8],
+    codes: &[u8; plain::PLAIN_CODES],
+    log: &mut [u32; limits::LOG_NUMBERS],
+) -> Judgement
+    requires { ⌜ headerOutcome (now s) ≡ Outcome.Pass ⌝ }
+    ensures { λ r. ⌜ IsJudged (dictionaryBy (now (codes .entry))) (now (s .entry)) (now (log .entry)) r (now (log .exit)) ⌝ }
 {
-    let header = header::header_outcome(s);
-    let Outcome::Pass = header else {
-        return Judgement {
-            outcome: header,
-            count: 0,
-        };
-    };
-    let walked = walk::walk_command(s, log);
+    let walked = walk::walk_command(s, codes, log);
     match walked {
         Walk::Stopped(v) => Judgement {
             outcome: Outcome::Refused(v),
@@ -62,4 +63,37 @@ pub(crate) fn judge(s: &[u8], log: &mut [u32; limits::LOG_NUMBERS]) -> Judgement
             count,
         },
     }
+}
+
+// A command judged into a lent log, by a table of plain codes.
+pub(crate) fn judge_by(
+    s: &[u8],
+    codes: &[u8; plain::PLAIN_CODES],
+    log: &mut [u32; limits::LOG_NUMBERS],
+) -> Judgement
+    ensures { λ r. ⌜ IsJudged (dictionaryBy (now (codes .entry))) (now (s .entry)) (now (log .entry)) r (now (log .exit)) ⌝ }
+{
+    let header = header::header_outcome(s);
+    let Outcome::Pass = header else {
+        return Judgement {
+            outcome: header,
+            count: 0,
+        };
+    };
+    judge_avps(s, codes, log)
+}
+
+// A command judged into a lent log. The table of plain codes is made once its header passed.
+pub(crate) fn judge(s: &[u8], log: &mut [u32; limits::LOG_NUMBERS]) -> Judgement
+    ensures { λ r. ⌜ IsJudged dictionary (now (s .entry)) (now (log .entry)) r (now (log .exit)) ⌝ }
+{
+    let header = header::header_outcome(s);
+    let Outcome::Pass = header else {
+        return Judgement {
+            outcome: header,
+            count: 0,
+        };
+    };
+    let codes = dictionary::plain_codes();
+    judge_avps(s, &codes, log)
 }

@@ -1,8 +1,10 @@
 // The reader of commands: the verdict and the record of a slice of octets.
 ghost use mathlib.Core.Path.{_≡_};
-ghost use Rattle.rules.specs.Verdict.{verdict};
+ghost use Rattle.rules.specs.Verdict.{verdict, verdictOf};
 ghost use Rattle.rules.specs.Record.{reading};
-ghost use Rattle.reader.specs.Promise.{Settled, Judged};
+ghost use Rattle.dictionary.specs.Table.{dictionaryBy};
+ghost use Rattle.reader.specs.Promise.{Settled, Judged, JudgedBy};
+use dictionary::plain;
 use rules::Outcome;
 use rules::Reading;
 use rules::Verdict;
@@ -38,15 +40,34 @@ pub fn outcome(s: &[u8], log: &mut [u32; limits::LOG_NUMBERS]) -> Outcome
     judged.outcome
 }
 
-// The verdict of a command. The lent log is written anew from position 0 on; no record is made.
-pub fn verdict(s: &[u8], log: &mut [u32; limits::LOG_NUMBERS]) -> Verdict
-    ensures { λ r. ⌜ Judged (now (s .entry)) (now (log .entry)) r (now (log .exit)) ⌝ }
+fn verdict_of(outcome: Outcome) -> Verdict
+    ensures { λ r. ⌜ r ≡ verdictOf outcome ⌝ }
 {
-    let outcome = outcome(s, log);
     match outcome {
         Outcome::Pass => accepted(),
         Outcome::Refused(v) => v,
     }
+}
+
+// The verdict of a command. The lent log is written anew from position 0 on; no record is made.
+pub fn verdict(s: &[u8], log: &mut [u32; limits::LOG_NUMBERS]) -> Verdict
+    ensures { λ r. ⌜ Judged (now (s .entry)) (now (log .entry)) r (now (log .exit)) ⌝ }
+{
+    verdict_of(outcome(s, log))
+}
+
+// The same by a lent table of plain codes, for a caller with many commands: the right one, `dictionary::plain_codes`, is
+// made once. What another table gives is stated too.
+pub fn verdict_by(
+    s: &[u8],
+    codes: &[u8; plain::PLAIN_CODES],
+    log: &mut [u32; limits::LOG_NUMBERS],
+) -> Verdict
+    ensures { λ r. ⌜ JudgedBy (dictionaryBy (now (codes .entry))) (now (s .entry)) (now (log .entry)) r (now (log .exit)) ⌝ }
+{
+    let judged = judge::judge_by(s, codes, log);
+    let outcome = judged.outcome;
+    verdict_of(outcome)
 }
 
 // The verdict of a command and its record, the empty one with a refusal.

@@ -4,10 +4,11 @@ ghost use mathlib.Core.Path.{_≡_};
 ghost use Rattle.rules.specs.Header.{vendor3GPP};
 ghost use Rattle.rules.specs.Rows.{admitsOthers};
 ghost use Rattle.rules.specs.RowChecks.{admission};
+use dictionary::kinds;
 use rules::Admission;
 use rules::Grammar;
 use rules::Mark;
-use rules::kinds;
+use rules::limits;
 
 fn by_row(row: usize, mark: Mark) -> Admission
     ensures { λ r. ⌜ r ≡ Admission.ByRow row mark ⌝ }
@@ -166,8 +167,8 @@ pub(crate) fn row_of(grammar: Grammar, vendor: u32, code: u32) -> Admission
     ensures { λ r. ⌜ r ≡ admission grammar vendor code ⌝ }
 {
     match vendor {
-        kinds::NO_VENDOR => row_without_vendor(grammar, code),
-        kinds::VENDOR_3GPP => row_of_3gpp(grammar, code),
+        limits::NO_VENDOR => row_without_vendor(grammar, code),
+        limits::VENDOR_3GPP => row_of_3gpp(grammar, code),
         _ => Admission::NoRow,
     }
 }

@@ -2,10 +2,10 @@
 ghost use mathlib.Core.Path.{_≡_};
 ghost use Rattle.rules.specs.RowChecks.{missing};
 ghost use Rattle.rows.specs.Required.{requiredAt};
+use dictionary::kinds;
 use rules::Grammar;
 use rules::Outcome;
 use rules::Required;
-use rules::kinds;
 
 fn next(row: usize, vendor: u32, code: u32) -> Required
     ensures { λ r. ⌜ r ≡ Required.Next row vendor code ⌝ }

@@ -1,5 +1,5 @@
--- Laws of a search by vendor and code, over any list of names: the dictionary's entries and the rows of a list are two
--- of them. They say when the search answers as a `match` on the two numbers does.
+-- Laws of a search by vendor and code, over any list of names, as the rows of a list. They say when the search answers as
+-- a `match` on the two numbers does.
 use mathlib.Core.Path.{_≡_, refl, sym, ap, _∙_}
 use mathlib.Core.List.{List, [], _∷_}
 use mathlib.Core.Bool.{Bool, true, false, cond, _&&_, _||_}
@@ -7,14 +7,8 @@ use mathlib.Core.Logic.{_⊎_, inl, inr, ⊎-elim}
 use Prim.Native.Nat.{ℕ, _+_}
 use lib.Dec.{T, eqb, eqb→eq}
 use borrow.Author.Tests.{ne-eqb}
-use Rattle.rules.specs.declared.Definition.{Definition}
-use Rattle.rules.specs.declared.Definition.the-variants.{Known, Unknown}
 use Rattle.rules.specs.declared.Admission.{Admission}
 use Rattle.rules.specs.declared.Admission.the-variants.{ByRow, NoRow}
-use Rattle.rules.specs.declared.Form.{Form}
-use Rattle.rules.specs.declared.Form.the-variants.{Any, Fixed, Group}
-use Rattle.rules.specs.declared.Members.the-variants.{NoMembers}
-use Rattle.rules.specs.Dictionary.{Entry, find, membersIn, membersOf, hasMembers}
 use Rattle.rules.specs.Rows.{Row}
 use Rattle.rules.specs.RowChecks.{admissionFrom}
 
@@ -42,7 +36,7 @@ abbrev pub Absent : List ℕ → ℕ → Type 0
 Absent [] x = Unit {0}
 Absent (k ∷ ks) x = Absent ks x × (x ≡ k → ⊥)
 
-abbrev consIf : Bool → ℕ → List ℕ → List ℕ
+abbrev pub consIf : Bool → ℕ → List ℕ → List ℕ
 consIf true k l = k ∷ l
 consIf false k l = l
 
@@ -69,7 +63,7 @@ module _ {A : Type 0} (none : A) where
 
 -- ---- a vendor that no name has
 
-abbrev among : ℕ → List ℕ → Bool
+abbrev pub among : ℕ → List ℕ → Bool
 among x [] = false
 among x (k ∷ ks) = eqb x k || among x ks
 
@@ -78,7 +72,7 @@ abbrev pub vendorsAmong : {A : Type 0} → List (Name A) → List ℕ → Bool
 vendorsAmong [] vendors = true
 vendorsAmong (n ∷ ns) vendors = among (n .vendor) vendors && vendorsAmong ns vendors
 
-both-hold : (a b : Bool) → T (a && b) → T a × T b
+pub both-hold : (a b : Bool) → T (a && b) → T a × T b
 both-hold true b t = (tt, t)
 both-hold false b t = absurd t
 
@@ -86,7 +80,7 @@ one-holds : (a b : Bool) → T (a || b) → T a ⊎ T b
 one-holds true b t = inl tt
 one-holds false b t = inr t
 
-absent-differs : (ks : List ℕ) (x k : ℕ) → T (among k ks) → Absent ks x → x ≡ k → ⊥
+pub absent-differs : (ks : List ℕ) (x k : ℕ) → T (among k ks) → Absent ks x → x ≡ k → ⊥
 absent-differs [] x k t h p = absurd t
 absent-differs (j ∷ ks) x k t h p =
     ⊎-elim (λ q. h .1 (p ∙ eqb→eq k j q)) (λ q. absent-differs ks x k q (h .0) p) (one-holds (eqb k j) (among k ks) t)
@@ -98,60 +92,6 @@ absent-vendor none (n ∷ ns) vendors vendor code t h =
     let b = both-hold (among (n .vendor) vendors) (vendorsAmong ns vendors) t in
     let r = absent-vendor none ns vendors vendor code (b .1) h in
     rw (ne-eqb vendor (n .vendor) (absent-differs vendors vendor (n .vendor) (b .0) h)) r
-
--- ---- the dictionary
-
-abbrev pub entryNames : List Entry → List (Name Definition)
-entryNames [] = []
-entryNames (e ∷ es) = record { vendor = e .vendor; code = e .code; answer = Known (e .m) (e .form) } ∷ entryNames es
-
-find-names : (es : List Entry) (vendor code : ℕ) → answerFor Unknown (entryNames es) vendor code ≡ find es vendor code
-unfolding find
-find-names [] vendor code = refl
-find-names (e ∷ es) vendor code =
-    ap (cond (eqb vendor (e .vendor) && eqb code (e .code)) (Known (e .m) (e .form))) (find-names es vendor code)
-
-pub find-absent-code : (es : List Entry) (vendor code : ℕ) → Absent (codesOf vendor (entryNames es) []) code
-    → Unknown ≡ find es vendor code
-find-absent-code es vendor code h = absent-code Unknown (entryNames es) vendor code h ∙ find-names es vendor code
-
-pub find-absent-vendor : (es : List Entry) (vendors : List ℕ) (vendor code : ℕ) → T (vendorsAmong (entryNames es) vendors)
-    → Absent vendors vendor → Unknown ≡ find es vendor code
-find-absent-vendor es vendors vendor code t h =
-    absent-vendor Unknown (entryNames es) vendors vendor code t h ∙ find-names es vendor code
-
--- ---- the groups of the dictionary: a `match` that has them alone
-
--- a vendor's groups before others, the last first
-abbrev pub groupCodes : ℕ → List Entry → List ℕ → List ℕ
-groupCodes vendor [] others = others
-groupCodes vendor (e ∷ es) others =
-    groupCodes vendor es (consIf (eqb vendor (e .vendor) && hasMembers (membersIn (e .form))) (e .code) others)
-
-either-way : (b : Bool) (d e : Definition) → membersOf d ≡ NoMembers → membersOf e ≡ NoMembers → membersOf (cond b d e) ≡ NoMembers
-either-way true d e p q = p
-either-way false d e p q = q
-
-group-passed-over : (same m : Bool) (form : Form) (code k : ℕ) (others : List ℕ) (d : Definition) → membersOf d ≡ NoMembers
-    → Absent (consIf (same && hasMembers (membersIn form)) k others) code
-    → (membersOf (cond (same && eqb code k) (Known m form) d) ≡ NoMembers) × Absent others code
-group-passed-over true m (Group g) code k others d p q = (rw (ne-eqb code k (q .1)) p, q .0)
-group-passed-over true m Any code k others d p q = (either-way (eqb code k) (Known m Any) d refl p, q)
-group-passed-over true m (Fixed w) code k others d p q = (either-way (eqb code k) (Known m (Fixed w)) d refl p, q)
-group-passed-over false m form code k others d p q = (p, q)
-
-groups-before : (es : List Entry) (vendor code : ℕ) (others : List ℕ) → Absent (groupCodes vendor es others) code
-    → (membersOf (find es vendor code) ≡ NoMembers) × Absent others code
-unfolding find
-groups-before [] vendor code others h = (refl, h)
-groups-before (e ∷ es) vendor code others h =
-    let same = eqb vendor (e .vendor) in
-    let r = groups-before es vendor code (consIf (same && hasMembers (membersIn (e .form))) (e .code) others) h in
-    group-passed-over same (e .m) (e .form) code (e .code) others (find es vendor code) (r .0) (r .1)
-
-pub no-group : (es : List Entry) (vendor code : ℕ) → Absent (groupCodes vendor es []) code
-    → NoMembers ≡ membersOf (find es vendor code)
-no-group es vendor code h = sym (groups-before es vendor code [] h .0)
 
 -- ---- rows, counted from i
 

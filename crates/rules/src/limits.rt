@@ -1,9 +1,15 @@
-// The numbers of documents 01 and 02 that are not AVP names: the Nt application and its command code, and the limits.
+// The numbers of documents 01 and 02 that are not AVP codes: the Nt application and its command code, the vendors, and the
+// limits.
 // Those of a log and of a record at the boundary are this repository's own.
 
 pub const APPLICATION_NT: u32 = 16777348;
 
 pub const CODE_BACKGROUND_DATA_TRANSFER: u32 = 8388723;
+
+// The vendor of an AVP whose V flag is clear, and 3GPP.
+pub const NO_VENDOR: u32 = 0;
+
+pub const VENDOR_3GPP: u32 = 10415;
 
 pub const HEADER_SIZE: usize = 20;
 

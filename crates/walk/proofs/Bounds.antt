@@ -11,7 +11,7 @@ use Rattle.rules.specs.declared.Checked.{Checked}
 use Rattle.rules.specs.declared.Checked.the-variants.{Fault, Plain, Group}
 use Rattle.rules.specs.Verdict.{verdict, verdictOf}
 use Rattle.rules.specs.Avp.{endOf}
-use Rattle.rules.specs.Dictionary.{dictionary}
+use Rattle.rules.specs.Dictionary.{Entry}
 use Rattle.rules.specs.Walk.{Standing, checked, Walked, whole, stopped, avpsOf, stopOf, andThen, inGroup, behind, walkAvp, walkList}
 use Rattle.rules.specs.Command.{ownList, walkOf}
 use Rattle.rules.proofs.Walk.{by-cases, avps-after, avp-fault, avp-plain, avp-group, list-none, list-end, list-more}
@@ -35,7 +35,7 @@ bounded-fit : (b : ℕ) (xs : List Avp) → b < 2 ^ 32 → Bounded b xs → AllF
 bounded-fit b [] h k = tt
 bounded-fit b (a ∷ xs) h k = (omega (arith, k .0), bounded-fit b xs h (k .1))
 
-module _ (b : ℕ) where
+module _ (dict : List Entry) (b : ℕ) where
   -- what goes on behind a walk
   then-bounded : (w : Walked) (f : ℕ → Walked) → Bounded b (avpsOf w) → ((k : ℕ) → Bounded b (avpsOf (f k))) → Bounded b (avpsOf (andThen w f))
   then-bounded (whole xs) f h k = rw avps-after (bounded-append b xs (avpsOf (f (length xs))) h (k (length xs)))
@@ -43,26 +43,26 @@ module _ (b : ℕ) where
 
   module _ (list : Standing → Walked) (inner : (w : Standing) → w .end ≤ b → Bounded b (avpsOf (list w)))
       (s : List ℕ) (w : Standing) (within : w .end ≤ b) where
-    entered-bounded : (c : Checked) → checked dictionary s w ≡ c → Bounded b (avpsOf (walkAvp list dictionary s w))
-    entered-bounded (Fault v) e = rw (avp-fault list dictionary s w e) tt
+    entered-bounded : (c : Checked) → checked dict s w ≡ c → Bounded b (avpsOf (walkAvp list dict s w))
+    entered-bounded (Fault v) e = rw (avp-fault list dict s w e) tt
     entered-bounded (Plain a) e =
-        let p = plain-framed dictionary s w e in
-        rw (avp-plain list dictionary s w e) (omega (arith, p .inner), tt)
+        let p = plain-framed dict s w e in
+        rw (avp-plain list dict s w e) (omega (arith, p .inner), tt)
     entered-bounded (Group a) e =
-        let p = group-framed dictionary s w e in
-        rw (avp-group list dictionary s w e, avps-after) (omega (arith, p .inner), inner (inGroup w a) (omega (arith, p .inner)))
+        let p = group-framed dict s w e in
+        rw (avp-group list dict s w e, avps-after) (omega (arith, p .inner), inner (inGroup w a) (omega (arith, p .inner)))
 
-  list-bounded : (n : ℕ) (s : List ℕ) (w : Standing) → w .end ≤ b → Bounded b (avpsOf (walkList n dictionary s w))
-  list-bounded zero s w h = rw (list-none dictionary s w) tt
+  list-bounded : (n : ℕ) (s : List ℕ) (w : Standing) → w .end ≤ b → Bounded b (avpsOf (walkList n dict s w))
+  list-bounded zero s w h = rw (list-none dict s w) tt
   list-bounded (suc n) s w h =
       let inner = list-bounded n s in
       by-cases (ltb (w .at) (w .end))
       (λ more.
-      rw (list-more n dictionary s w (ltb-true _ _ more))
-      (then-bounded (walkAvp (walkList n dictionary s) dictionary s w) (λ k. walkList n dictionary s (behind s w k))
-      (entered-bounded (walkList n dictionary s) inner s w h (checked dictionary s w) refl)
+      rw (list-more n dict s w (ltb-true _ _ more))
+      (then-bounded (walkAvp (walkList n dict s) dict s w) (λ k. walkList n dict s (behind s w k))
+      (entered-bounded (walkList n dict s) inner s w h (checked dict s w) refl)
       (λ k. inner (behind s w k) h)))
-      (λ past. rw (list-end (suc n) dictionary s w (ltb-false _ _ past)) tt)
+      (λ past. rw (list-end (suc n) dict s w (ltb-false _ _ past)) tt)
 
 -- ---- the walk of a command
 
@@ -75,27 +75,27 @@ counted-walk : (w : Walked) → countOfWalk (answerOf 0 w) ≡ countOf w
 counted-walk (whole xs) = omega arith
 counted-walk (stopped xs v) = refl
 
-module _ (s : List ℕ) where
-  long-command : 16384 < length s → commandWalk s ≡ stopped [] (verdict 7001 1 0 0)
+module _ (dict : List Entry) (s : List ℕ) where
+  long-command : 16384 < length s → commandWalk dict s ≡ stopped [] (verdict 7001 1 0 0)
   unfolding commandWalk
   long-command h = rw (lt-ltb 16384 (length s) h)
 
   module _ (short : length s ≤ 16384) where
-    command-walk : commandWalk s ≡ walkList (length s) dictionary s (ownList s)
-    unfolding commandWalk walkOf
+    command-walk : commandWalk dict s ≡ walkList (length s) dict s (ownList s)
+    unfolding commandWalk
     command-walk = rw (le-ltb 16384 (length s) short)
 
-    no-list : length s < 20 → commandWalk s ≡ whole []
-    no-list h = command-walk ∙ list-end (length s) dictionary s (ownList s) (omega arith)
+    no-list : length s < 20 → commandWalk dict s ≡ whole []
+    no-list h = command-walk ∙ list-end (length s) dict s (ownList s) (omega arith)
 
-    command-fits : AllFit (avpsOf (commandWalk s))
+    command-fits : AllFit (avpsOf (commandWalk dict s))
     command-fits =
-        bounded-fit (length s) (avpsOf (commandWalk s)) (omega arith)
-        (rw command-walk (list-bounded (length s) (length s) s (ownList s) (omega arith)))
+        bounded-fit (length s) (avpsOf (commandWalk dict s)) (omega arith)
+        (rw command-walk (list-bounded dict (length s) (length s) s (ownList s) (omega arith)))
 
     -- a whole walk of at most 256 AVPs is read back from its log
-    read-back : (before after : List ℕ) → length before ≡ 1792 → after ≡ putAvps before 0 (avpsOf (commandWalk s))
-        → (c : ℕ) → c ≤ 256 → (w : Walked) → commandWalk s ≡ w → Whole c ≡ answerOf 0 w → avpsIn after c ≡ avpsOf (commandWalk s)
+    read-back : (before after : List ℕ) → length before ≡ 1792 → after ≡ putAvps before 0 (avpsOf (commandWalk dict s))
+        → (c : ℕ) → c ≤ 256 → (w : Walked) → commandWalk dict s ≡ w → Whole c ≡ answerOf 0 w → avpsIn after c ≡ avpsOf (commandWalk dict s)
     read-back before after room logged c few (whole xs) e q =
         let n : c ≡ length xs = omega (arith, whole-count) in
         rw (logged, e, n) (avps-put xs before room (omega arith) (rw e at command-fits))
@@ -105,35 +105,35 @@ module _ (s : List ℕ) where
     read-back before after room logged c few (stopped xs v) e q = let z : _≡_ {A = ℕ} 0 1 = cc in absurd (omega arith)
 
     pub command-walked : (before after : List ℕ) (r : Walk) → length before ≡ 1792
-        → ListWalked s (ownList s) before r after → CommandWalked s before r after
+        → ListWalked dict s (ownList s) before r after → CommandWalked dict s before r after
     command-walked before after r room l =
-        let answer : r ≡ answerOf 0 (commandWalk s) = rw command-walk (l .answer (length s) (omega arith)) in
-        let logged : after ≡ putAvps before 0 (avpsOf (commandWalk s)) = rw command-walk (l .logged (length s) (omega arith)) in
+        let answer : r ≡ answerOf 0 (commandWalk dict s) = rw command-walk (l .answer (length s) (omega arith)) in
+        let logged : after ≡ putAvps before 0 (avpsOf (commandWalk dict s)) = rw command-walk (l .logged (length s) (omega arith)) in
         record {
-          told = ap verdictOfWalk answer ∙ told-walk (commandWalk s);
-          counted = ap countOfWalk answer ∙ counted-walk (commandWalk s);
+          told = ap verdictOfWalk answer ∙ told-walk (commandWalk dict s);
+          counted = ap countOfWalk answer ∙ counted-walk (commandWalk dict s);
           answer = answer;
           logged = logged;
           few = l .within;
-          read = λ c e. read-back before after room logged c (l .within c e) (commandWalk s) refl (sym e ∙ answer);
+          read = λ c e. read-back before after room logged c (l .within c e) (commandWalk dict s) refl (sym e ∙ answer);
         }
 
-    pub none-walked : (before : List ℕ) → length before ≡ 1792 → length s < 20 → CommandWalked s before (Whole 0) before
+    pub none-walked : (before : List ℕ) → length before ≡ 1792 → length s < 20 → CommandWalked dict s before (Whole 0) before
     none-walked before room h =
-        let answer : Whole 0 ≡ answerOf 0 (commandWalk s) = rw (no-list h) in
-        let logged : before ≡ putAvps before 0 (avpsOf (commandWalk s)) = rw (no-list h) in
+        let answer : Whole 0 ≡ answerOf 0 (commandWalk dict s) = rw (no-list h) in
+        let logged : before ≡ putAvps before 0 (avpsOf (commandWalk dict s)) = rw (no-list h) in
         record {
-          told = ap verdictOfWalk answer ∙ told-walk (commandWalk s);
-          counted = ap countOfWalk answer ∙ counted-walk (commandWalk s);
+          told = ap verdictOfWalk answer ∙ told-walk (commandWalk dict s);
+          counted = ap countOfWalk answer ∙ counted-walk (commandWalk dict s);
           answer = answer;
           logged = logged;
           few = λ c e. let n : 0 ≡ c = cc in omega arith;
           read = λ c e.
               let n : 0 ≡ c = cc in
-              read-back before before room logged c (omega arith) (commandWalk s) refl (sym e ∙ answer);
+              read-back before before room logged c (omega arith) (commandWalk dict s) refl (sym e ∙ answer);
         }
 
-  pub refused-walked : (before : List ℕ) → 16384 < length s → CommandWalked s before (Stopped (verdict 7001 1 0 0)) before
+  pub refused-walked : (before : List ℕ) → 16384 < length s → CommandWalked dict s before (Stopped (verdict 7001 1 0 0)) before
   refused-walked before h = record {
     told = rw (long-command h);
     counted = rw (long-command h);

@@ -17,7 +17,7 @@ use Rattle.rules.specs.declared.Checked.the-variants.{Fault}
 use Rattle.rules.specs.Octets.{numberAt, padded}
 use Rattle.rules.specs.Verdict.{verdict, refuseIf}
 use Rattle.rules.specs.Avp.{codeAt, flagsAt, flagV, lengthAt, headerOf, avpAt}
-use Rattle.rules.specs.Dictionary.{dictionary}
+use Rattle.rules.specs.Dictionary.{Entry}
 use Rattle.rules.specs.Walk.{Standing, mostAvps, framing, checkedAvp, checked}
 use Rattle.rules.proofs.Octets.{numberAt-part}
 use Rattle.rules.proofs.Fields.{avpAt-by}
@@ -57,15 +57,15 @@ module _ (s : List ℕ) (w : Standing) where
   pub holds-framed : {a : Avp} → Holds a ≡ frameHere → Framed s (w .at) (w .end)
   holds-framed {a} e = framed s (w .at) (w .end) (holds-is (framing s (w .at) (w .end)) a (avpAt s (w .at) (w .depth)) e .0)
 
-  module _ (few : w .count < mostAvps) where
-    pub holds-checked : {a : Avp} → Holds a ≡ frameHere → checked dictionary s w ≡ checkedAvp dictionary s (w .at) a
+  module _ (dict : List Entry) (few : w .count < mostAvps) where
+    pub holds-checked : {a : Avp} → Holds a ≡ frameHere → checked dict s w ≡ checkedAvp dict s (w .at) a
     holds-checked {a} e =
         let h = holds-is (framing s (w .at) (w .end)) a (avpAt s (w .at) (w .depth)) e in
-        checked-on dictionary s w few (h .0) a (sym (h .1))
+        checked-on dict s w few (h .0) a (sym (h .1))
 
-    pub broken-checked : {v : Verdict} → Broken v ≡ frameHere → checked dictionary s w ≡ Fault v
+    pub broken-checked : {v : Verdict} → Broken v ≡ frameHere → checked dict s w ≡ Fault v
     broken-checked {v} e =
-        checked-frame dictionary s w few (broken-is (framing s (w .at) (w .end)) v (avpAt s (w .at) (w .depth)) e)
+        checked-frame dict s w few (broken-is (framing s (w .at) (w .end)) v (avpAt s (w .at) (w .depth)) e)
 
 -- ---- the fields of an AVP, read from the rest of its list
 

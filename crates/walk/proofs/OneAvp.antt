@@ -9,7 +9,7 @@ use Rattle.rules.specs.declared.Avp.{Avp}
 use Rattle.rules.specs.declared.Verdict.{Verdict}
 use Rattle.rules.specs.declared.Checked.the-variants.{Fault, Plain, Group}
 use Rattle.rules.specs.Avp.{nextAt}
-use Rattle.rules.specs.Dictionary.{dictionary}
+use Rattle.rules.specs.Dictionary.{Entry}
 use Rattle.rules.specs.Walk.{Standing, mostAvps, deepest, checked, Walked, whole, stopped, avpsOf, after, inGroup, walkList}
 use Rattle.rules.proofs.Fields.{avpAt-depth}
 use Rattle.rules.proofs.Walk.{avps-after, avp-fault, avp-plain, avp-group}
@@ -34,54 +34,54 @@ step-halted place v (Whole d) e = let z : _≡_ {A = ℕ} 0 1 = cc in absurd (om
 step-halted place v (Stopped u) e = cc
 
 -- a group has room for its members
-pub group-level : (s : List ℕ) (w : Standing) {a : Avp} → checked dictionary s w ≡ Group a → w .depth < deepest
-group-level s w e =
-    let i = group-is dictionary s w e in
+pub group-level : (dict : List Entry) (s : List ℕ) (w : Standing) {a : Avp} → checked dict s w ≡ Group a → w .depth < deepest
+group-level dict s w e =
+    let i = group-is dict s w e in
     let d = ap (λ (x : Avp). x .depth) (i .1) ∙ avpAt-depth s (w .at) (w .depth) in
     rw d at (i .2)
 
 -- there is room for an AVP that passes
-plain-few : (s : List ℕ) (w : Standing) {a : Avp} → checked dictionary s w ≡ Plain a → w .count < mostAvps
-plain-few s w e = passed-few dictionary s w (λ v f. let z : _≡_ {A = ℕ} 0 1 = cc in absurd (omega arith))
+plain-few : (dict : List Entry) (s : List ℕ) (w : Standing) {a : Avp} → checked dict s w ≡ Plain a → w .count < mostAvps
+plain-few dict s w e = passed-few dict s w (λ v f. let z : _≡_ {A = ℕ} 0 1 = cc in absurd (omega arith))
 
-pub group-few : (s : List ℕ) (w : Standing) {a : Avp} → checked dictionary s w ≡ Group a → w .count < mostAvps
-group-few s w e = passed-few dictionary s w (λ v f. let z : _≡_ {A = ℕ} 0 1 = cc in absurd (omega arith))
+pub group-few : (dict : List Entry) (s : List ℕ) (w : Standing) {a : Avp} → checked dict s w ≡ Group a → w .count < mostAvps
+group-few dict s w e = passed-few dict s w (λ v f. let z : _≡_ {A = ℕ} 0 1 = cc in absurd (omega arith))
 
-module _ (s : List ℕ) (w : Standing) (log : List ℕ) where
+module _ (dict : List Entry) (s : List ℕ) (w : Standing) (log : List ℕ) where
   -- a refusal: no AVP, whatever the number of steps
-  pub fault-walked : (v : Verdict) → checked dictionary s w ≡ Fault v → AvpWalked s w log (Halted v) log
+  pub fault-walked : (v : Verdict) → checked dict s w ≡ Fault v → AvpWalked dict s w log (Halted v) log
   fault-walked v e = record {
-    answer = λ n _. rw (avp-fault (walkList n dictionary s) dictionary s w e);
-    logged = λ n _. rw (avp-fault (walkList n dictionary s) dictionary s w e);
+    answer = λ n _. rw (avp-fault (walkList n dict s) dict s w e);
+    logged = λ n _. rw (avp-fault (walkList n dict s) dict s w e);
     within = λ c next q. let z : _≡_ {A = ℕ} 0 1 = cc in absurd (omega arith);
   }
 
   module _ {a : Avp} (log′ : List ℕ) (put : log′ ≡ putAvp log (w .count) a) where
-    pub plain-walked : checked dictionary s w ≡ Plain a → AvpWalked s w log (On (w .count + 1) (nextAfter a)) log′
+    pub plain-walked : checked dict s w ≡ Plain a → AvpWalked dict s w log (On (w .count + 1) (nextAfter a)) log′
     plain-walked e =
-        let p = plain-framed dictionary s w e in
+        let p = plain-framed dict s w e in
         record {
-          answer = λ n _. rw (avp-plain (walkList n dictionary s) dictionary s w e, p .next);
-          logged = λ n _. rw (avp-plain (walkList n dictionary s) dictionary s w e) put;
+          answer = λ n _. rw (avp-plain (walkList n dict s) dict s w e, p .next);
+          logged = λ n _. rw (avp-plain (walkList n dict s) dict s w e) put;
           within = λ c next q.
               let k = step-on (nextAfter a) next c (Whole (w .count + 1)) (sym q) in
               let h : c ≡ w .count + 1 = cc in
-              let few = plain-few s w e in
+              let few = plain-few dict s w e in
               (omega arith, omega arith, omega arith);
         }
 
-    pub group-walked : checked dictionary s w ≡ Group a → (r : Walk) (log″ : List ℕ)
-        → ListWalked s (inGroup w a) log′ r log″ → AvpWalked s w log (stepTo (nextAfter a) r) log″
+    pub group-walked : checked dict s w ≡ Group a → (r : Walk) (log″ : List ℕ)
+        → ListWalked dict s (inGroup w a) log′ r log″ → AvpWalked dict s w log (stepTo (nextAfter a) r) log″
     group-walked e r log″ l =
-        let p = group-framed dictionary s w e in
+        let p = group-framed dict s w e in
         record {
           answer = λ n h.
-              rw (avp-group (walkList n dictionary s) dictionary s w e, answer-after, p .next)
+              rw (avp-group (walkList n dict s) dict s w e, answer-after, p .next)
               (ap (stepTo (nextAt s (w .at))) (l .answer n (omega arith)));
           logged = λ n h.
-              rw (avp-group (walkList n dictionary s) dictionary s w e, avps-after)
+              rw (avp-group (walkList n dict s) dict s w e, avps-after)
               (l .logged n (omega arith)
-              ∙ ap (λ (x : List ℕ). putAvps x (w .count + 1) (avpsOf (walkList n dictionary s (inGroup w a)))) put);
+              ∙ ap (λ (x : List ℕ). putAvps x (w .count + 1) (avpsOf (walkList n dict s (inGroup w a)))) put);
           within = λ c next q.
               let k = step-on (nextAfter a) next c r (sym q) in
               (omega arith, omega arith, l .within c (sym (k .1)));

@@ -13,9 +13,9 @@ use Rattle.rules.specs.Octets.{padded}
 use Rattle.rules.specs.Verdict.{verdict, verdictOf}
 use Rattle.rules.specs.Header.{longestCommand}
 use Rattle.rules.specs.Avp.{flagM, flagP, nextAt}
-use Rattle.rules.specs.Dictionary.{dictionary}
+use Rattle.rules.specs.Dictionary.{Entry}
 use Rattle.rules.specs.Walk.{Standing, mostAvps, deepest, Walked, whole, stopped, avpsOf, stopOf, walkAvp, walkList}
-use Rattle.rules.specs.Command.{walkOf}
+use Rattle.rules.specs.Command.{ownList}
 use Rattle.log.specs.Log.{avpsIn, putAvps}
 use Rattle.walk.specs.declared.frame.Frame.{Frame}
 use Rattle.walk.specs.declared.frame.Frame.the-variants.{Holds, Broken}
@@ -74,28 +74,32 @@ stepTo next (Whole count) = On count next
 stepTo next (Stopped v) = Halted v
 
 -- the AVP walk: the answer, the log, and where the next AVP stands
-pub record AvpWalked (s : List ℕ) (w : Standing) (before : List ℕ) (r : Step) (after : List ℕ) : Type 0 where
+pub record AvpWalked (dict : List Entry) (s : List ℕ) (w : Standing) (before : List ℕ) (r : Step) (after : List ℕ) : Type 0 where
   pub answer : (n : ℕ) → w .end - w .at ≤ suc n
-      → r ≡ stepTo (nextAt s (w .at)) (answerOf (w .count) (walkAvp (walkList n dictionary s) dictionary s w))
+      → r ≡ stepTo (nextAt s (w .at)) (answerOf (w .count) (walkAvp (walkList n dict s) dict s w))
   pub logged : (n : ℕ) → w .end - w .at ≤ suc n
-      → after ≡ putAvps before (w .count) (avpsOf (walkAvp (walkList n dictionary s) dictionary s w))
+      → after ≡ putAvps before (w .count) (avpsOf (walkAvp (walkList n dict s) dict s w))
   pub within : (c next : ℕ) → r ≡ On c next → (w .at < next) × (next ≤ w .end) × (c ≤ mostAvps)
 
 -- the list walk
-pub record ListWalked (s : List ℕ) (w : Standing) (before : List ℕ) (r : Walk) (after : List ℕ) : Type 0 where
-  pub answer : (n : ℕ) → w .end - w .at ≤ n → r ≡ answerOf (w .count) (walkList n dictionary s w)
-  pub logged : (n : ℕ) → w .end - w .at ≤ n → after ≡ putAvps before (w .count) (avpsOf (walkList n dictionary s w))
+pub record ListWalked (dict : List Entry) (s : List ℕ) (w : Standing) (before : List ℕ) (r : Walk) (after : List ℕ) : Type 0 where
+  pub answer : (n : ℕ) → w .end - w .at ≤ n → r ≡ answerOf (w .count) (walkList n dict s w)
+  pub logged : (n : ℕ) → w .end - w .at ≤ n → after ≡ putAvps before (w .count) (avpsOf (walkList n dict s w))
   pub within : (c : ℕ) → r ≡ Whole c → c ≤ mostAvps
 
+-- the walk of a command's own list by a dictionary; document 01's walk goes by its own
+abbrev pub walkBy : List Entry → List ℕ → Walked
+walkBy dict s = walkList (length s) dict s (ownList s)
+
 -- the walk of a command; one longer than 16,384 octets is 7001 at 1, as by its header
-unfoldable pub commandWalk : List ℕ → Walked
-commandWalk s = cond (ltb longestCommand (length s)) (stopped [] (verdict 7001 1 0 0)) (walkOf s)
+unfoldable pub commandWalk : List Entry → List ℕ → Walked
+commandWalk dict s = cond (ltb longestCommand (length s)) (stopped [] (verdict 7001 1 0 0)) (walkBy dict s)
 
 -- the answer by 01's number and values, and by its cases for the callers; the log, and what is read back from it
-pub record CommandWalked (s before : List ℕ) (r : Walk) (after : List ℕ) : Type 0 where
-  pub told : verdictOfWalk r ≡ verdictOf (stopOf (commandWalk s))
-  pub counted : countOfWalk r ≡ countOf (commandWalk s)
-  pub answer : r ≡ answerOf 0 (commandWalk s)
-  pub logged : after ≡ putAvps before 0 (avpsOf (commandWalk s))
+pub record CommandWalked (dict : List Entry) (s before : List ℕ) (r : Walk) (after : List ℕ) : Type 0 where
+  pub told : verdictOfWalk r ≡ verdictOf (stopOf (commandWalk dict s))
+  pub counted : countOfWalk r ≡ countOf (commandWalk dict s)
+  pub answer : r ≡ answerOf 0 (commandWalk dict s)
+  pub logged : after ≡ putAvps before 0 (avpsOf (commandWalk dict s))
   pub few : (c : ℕ) → r ≡ Whole c → c ≤ mostAvps
-  pub read : (c : ℕ) → r ≡ Whole c → avpsIn after c ≡ avpsOf (commandWalk s)
+  pub read : (c : ℕ) → r ≡ Whole c → avpsIn after c ≡ avpsOf (commandWalk dict s)

@@ -8,45 +8,24 @@ ghost use Rattle.rules.specs.Octets.{numberAt};
 ghost use Rattle.rules.specs.Verdict.{refused};
 ghost use Rattle.rules.specs.Header.{longestCommand};
 ghost use Rattle.rules.specs.Avp.{flagV, headerOf};
-ghost use Rattle.rules.specs.Dictionary.{dictionary, requiresM, isGroup};
+ghost use Rattle.rules.specs.Dictionary.{dictionary};
 ghost use Rattle.rules.specs.Walk.{wrongFlags, unsupported, wrongWidth, wrongValue, tooDeep, contents};
 ghost use Rattle.rules.specs.Walk.{checkedAvp, checked, standing};
+ghost use Rattle.dictionary.specs.Entries.{definitionAt};
+ghost use Rattle.dictionary.specs.Table.{dictionaryBy};
 ghost use Rattle.walk.specs.Promise.{InList};
 use crate::frame;
 use crate::frame::Frame;
 use avp::is_named;
+use dictionary::kinds::AuthSessionState;
+use dictionary::kinds::TransferRequestType;
+use dictionary::plain;
 use octets::has_flag;
 use rules::Avp;
 use rules::Checked;
-use rules::Definition;
-use rules::Form;
 use rules::Outcome;
 use rules::flags;
-use rules::kinds::AuthSessionState;
-use rules::kinds::TransferRequestType;
 use rules::limits;
-
-fn requires_m(d: Definition) -> bool
-    ensures { λ r. ⌜ r ≡ requiresM d ⌝ }
-{
-    match d {
-        Definition::Known { m, form: _ } => m,
-        Definition::Unknown => false,
-    }
-}
-
-fn is_group(d: Definition) -> bool
-    ensures { λ r. ⌜ r ≡ isGroup d ⌝ }
-{
-    match d {
-        Definition::Known { m: _, form } => match form {
-            Form::Any => false,
-            Form::Fixed(_) => false,
-            Form::Group(_) => true,
-        },
-        Definition::Unknown => false,
-    }
-}
 
 // V set with vendor 0.
 fn has_vendor_zero(flags: u8, vendor: u32) -> bool
@@ -59,8 +38,8 @@ fn has_vendor_zero(flags: u8, vendor: u32) -> bool
 }
 
 // Check 3.
-fn wrong_flags(flags: u8, a: Avp, d: Definition) -> bool
-    ensures { λ r. ⌜ r ≡ wrongFlags flags a d ⌝ }
+fn wrong_flags(flags: u8, a: Avp, entry: u8) -> bool
+    ensures { λ r. ⌜ r ≡ wrongFlags flags a (definitionAt dictionary entry) ⌝ }
 {
     let reserved = flags % 32;
     if reserved != 0 {
@@ -69,34 +48,31 @@ fn wrong_flags(flags: u8, a: Avp, d: Definition) -> bool
     if has_vendor_zero(flags, a.vendor) {
         return true;
     }
-    if requires_m(d) {
+    if dictionary::requires_m(entry) {
         return !a.m;
     }
     false
 }
 
 // Check 4.
-fn unsupported_name(a: Avp, d: Definition) -> bool
-    ensures { λ r. ⌜ r ≡ unsupported a d ⌝ }
+fn unsupported_name(a: Avp, entry: u8) -> bool
+    ensures { λ r. ⌜ r ≡ unsupported a (definitionAt dictionary entry) ⌝ }
 {
-    match d {
-        Definition::Known { m: _, form: _ } => false,
-        Definition::Unknown => a.m,
+    if dictionary::is_known(entry) {
+        return false;
     }
+    a.m
 }
 
 // Check 5.
-fn wrong_width(a: Avp, d: Definition) -> bool
-    ensures { λ r. ⌜ r ≡ wrongWidth a d ⌝ }
+fn wrong_width(a: Avp, entry: u8) -> bool
+    ensures { λ r. ⌜ r ≡ wrongWidth a (definitionAt dictionary entry) ⌝ }
 {
-    match d {
-        Definition::Known { m: _, form } => match form {
-            Form::Any => false,
-            Form::Fixed(width) => a.length != width,
-            Form::Group(_) => false,
-        },
-        Definition::Unknown => false,
+    let width = dictionary::width(entry);
+    if width == 0 {
+        return false;
     }
+    a.length != width
 }
 
 // Check 6, by the value of the AVP's first four octets.
@@ -118,10 +94,10 @@ fn wrong_value(s: &[u8], a: Avp) -> bool
 }
 
 // Check 7.
-fn too_deep(a: Avp, d: Definition) -> bool
-    ensures { λ r. ⌜ r ≡ tooDeep a d ⌝ }
+fn too_deep(a: Avp, entry: u8) -> bool
+    ensures { λ r. ⌜ r ≡ tooDeep a (definitionAt dictionary entry) ⌝ }
 {
-    if is_group(d) {
+    if dictionary::is_group(entry) {
         return limits::DEEPEST <= a.depth;
     }
     false
@@ -134,56 +110,63 @@ fn refusal(number: u32, at: usize, a: Avp) -> Outcome
     avp::refusal(number, at as u32, a.vendor, a.code)
 }
 
-// Checks 3 to 7 of the AVP at a place, with what the dictionary says of its name.
-fn content(s: &[u8], at: usize, a: Avp, d: Definition) -> Outcome
+// Checks 3 to 7 of the AVP at a place, with the entry of its name.
+fn content(s: &[u8], at: usize, a: Avp, entry: u8) -> Outcome
     requires { ⌜ (at + headerOf false ≤ length (now s)) × (at ≤ longestCommand) ⌝ }
-    ensures { λ r. ⌜ r ≡ contents (now (s .entry)) at a d ⌝ }
+    ensures { λ r. ⌜ r ≡ contents (now (s .entry)) at a (definitionAt dictionary entry) ⌝ }
 {
-    if wrong_flags(s[at + 4], a, d) {
+    if wrong_flags(s[at + 4], a, entry) {
         return refusal(3009, at, a);
     }
-    if unsupported_name(a, d) {
+    if unsupported_name(a, entry) {
         return refusal(5001, at, a);
     }
-    if wrong_width(a, d) {
+    if wrong_width(a, entry) {
         return refusal(5014, at, a);
     }
     if wrong_value(s, a) {
         return refusal(5004, at, a);
     }
-    if too_deep(a, d) {
+    if too_deep(a, entry) {
         return refusal(7003, at, a);
     }
     Outcome::Pass
 }
 
-// Checks 3 to 7 of the AVP at a place, and whether its data are a list.
-fn judged(s: &[u8], at: usize, a: Avp) -> Checked
+// Checks 3 to 7 of the AVP at a place, and whether its data are a list, by a table of plain codes.
+fn judged(s: &[u8], at: usize, a: Avp, codes: &[u8; plain::PLAIN_CODES]) -> Checked
     requires { ⌜ (at + headerOf false ≤ length (now s)) × (at ≤ longestCommand) ⌝ }
-    ensures { λ r. ⌜ r ≡ checkedAvp dictionary (now (s .entry)) at a ⌝ }
+    ensures { λ r. ⌜ r ≡ checkedAvp (dictionaryBy (now (codes .entry))) (now (s .entry)) at a ⌝ }
 {
-    let d = dictionary::definition(a.vendor, a.code);
-    let outcome = content(s, at, a, d);
+    let entry = dictionary::entry_by(codes, a.vendor, a.code);
+    let outcome = content(s, at, a, entry);
     if let Outcome::Refused(v) = outcome {
         return Checked::Fault(v);
     }
-    if is_group(d) {
+    if dictionary::is_group(entry) {
         return Checked::Group(a);
     }
     Checked::Plain(a)
 }
 
 // The seven checks of the AVP at a place of a list, with `count` AVPs in the record already.
-pub(crate) fn check(s: &[u8], at: usize, end: usize, depth: u32, count: usize) -> Checked
+pub(crate) fn check(
+    s: &[u8],
+    at: usize,
+    end: usize,
+    depth: u32,
+    count: usize,
+    codes: &[u8; plain::PLAIN_CODES],
+) -> Checked
     requires { ⌜ InList (now s) at end ⌝ }
-    ensures { λ r. ⌜ r ≡ checked dictionary (now (s .entry)) (standing at end depth count) ⌝ }
+    ensures { λ r. ⌜ r ≡ checked (dictionaryBy (now (codes .entry))) (now (s .entry)) (standing at end depth count) ⌝ }
 {
     if limits::MOST_AVPS <= count {
         return Checked::Fault(frame::fault(7002, at, 0, 0));
     }
     let framed = frame::framed(s, at, end, depth);
     match framed {
-        Frame::Holds(a) => judged(s, at, a),
+        Frame::Holds(a) => judged(s, at, a, codes),
         Frame::Broken(v) => Checked::Fault(v),
     }
 }

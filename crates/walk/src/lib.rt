@@ -1,7 +1,9 @@
 // 01, Order of checks, Walk: the AVPs of a command in walk order, written into a lent log, or the first fault. The list
 // walk and the AVP walk call each other; the depth that is left falls at each group.
 ghost use Rattle.rules.specs.Walk.{standing};
+ghost use Rattle.dictionary.specs.Table.{dictionaryBy};
 ghost use Rattle.walk.specs.Promise.{StandsIn, AvpWalked, ListWalked, CommandWalked};
+use dictionary::plain;
 use rules::Checked;
 use rules::Verdict;
 use rules::limits;
@@ -28,12 +30,13 @@ fn walk_avp(
     end: usize,
     depth: u32,
     count: usize,
+    codes: &[u8; plain::PLAIN_CODES],
     log: &mut [u32; limits::LOG_NUMBERS],
 ) -> Step
     requires { ⌜ StandsIn (now s) (standing at end depth count) ⌝ }
-    ensures { λ r. ⌜ AvpWalked (now (s .entry)) (standing at end depth count) (now (log .entry)) r (now (log .exit)) ⌝ }
+    ensures { λ r. ⌜ AvpWalked (dictionaryBy (now (codes .entry))) (now (s .entry)) (standing at end depth count) (now (log .entry)) r (now (log .exit)) ⌝ }
 {
-    let c = check::check(s, at, end, depth, count);
+    let c = check::check(s, at, end, depth, count, codes);
     match c {
         Checked::Fault(v) => Step::Halted(v),
         Checked::Plain(a) => {
@@ -47,7 +50,7 @@ fn walk_avp(
             log::put(log, count, a);
             let start = a.start as usize;
             let length = a.length as usize;
-            let members = walk_list(s, start, start + length, depth + 1, count + 1, log);
+            let members = walk_list(s, start, start + length, depth + 1, count + 1, codes, log);
             match members {
                 Walk::Whole(c) => Step::On {
                     count: c,
@@ -66,15 +69,16 @@ fn walk_list(
     end: usize,
     depth: u32,
     count: usize,
+    codes: &[u8; plain::PLAIN_CODES],
     log: &mut [u32; limits::LOG_NUMBERS],
 ) -> Walk
     requires { ⌜ StandsIn (now s) (standing at end depth count) ⌝ }
-    ensures { λ r. ⌜ ListWalked (now (s .entry)) (standing at end depth count) (now (log .entry)) r (now (log .exit)) ⌝ }
+    ensures { λ r. ⌜ ListWalked (dictionaryBy (now (codes .entry))) (now (s .entry)) (standing at end depth count) (now (log .entry)) r (now (log .exit)) ⌝ }
 {
     let mut place = at;
     let mut met = count;
     while place < end {
-        let one = walk_avp(s, place, end, depth, met, log);
+        let one = walk_avp(s, place, end, depth, met, codes, log);
         match one {
             Step::On { count: c, next } => {
                 place = next;
@@ -86,10 +90,14 @@ fn walk_list(
     Walk::Whole(met)
 }
 
-// The walk of a command's own list. A command without the octets of a header has no list; one that is longer than any
-// is refused as by its header.
-pub fn walk_command(s: &[u8], log: &mut [u32; limits::LOG_NUMBERS]) -> Walk
-    ensures { λ r. ⌜ CommandWalked (now (s .entry)) (now (log .entry)) r (now (log .exit)) ⌝ }
+// The walk of a command's own list, by a table of plain codes. A command without the octets of a header has no list; one
+// that is longer than any is refused as by its header.
+pub fn walk_command(
+    s: &[u8],
+    codes: &[u8; plain::PLAIN_CODES],
+    log: &mut [u32; limits::LOG_NUMBERS],
+) -> Walk
+    ensures { λ r. ⌜ CommandWalked (dictionaryBy (now (codes .entry))) (now (s .entry)) (now (log .entry)) r (now (log .exit)) ⌝ }
 {
     log::size(log);
     if limits::LONGEST_COMMAND < s.len() {
@@ -103,5 +111,5 @@ pub fn walk_command(s: &[u8], log: &mut [u32; limits::LOG_NUMBERS]) -> Walk
     if s.len() < limits::HEADER_SIZE {
         return Walk::Whole(0);
     }
-    walk_list(s, limits::HEADER_SIZE, s.len(), 1, 0, log)
+    walk_list(s, limits::HEADER_SIZE, s.len(), 1, 0, codes, log)
 }

@@ -11,6 +11,9 @@ use Rattle.book.proofs.listing.Tie as tie
 is-book-requires : tie.Need-is-book-requires
 is-book-requires c κs = search needs
 
+plain-codes-requires : tie.Need-plain-codes-requires
+plain-codes-requires c κs = search needs
+
 slice-aggregate-put-first-line : tie.Need-slice-aggregate-put-first-line
 slice-aggregate-put-first-line c = search needs
 
@@ -19,14 +22,17 @@ put-first-line-requires c κs = search needs
 
 put-lines-requires : tie.Need-put-lines-requires
 put-lines-requires c κs =
-    let w = c .before .before in
-    let i = w .before .before .before in
-    head-put (sym (i .before .is-book .ensures) ∙ i .if1 .taken) (omega (arith, w .put-first-line .ensures .next))
+    let w = c .before .before .before in
+    let p = w .before .before .before in
+    let i = p .before in
+    let head = head-put {r = w .put-first-line .result} (sym (i .before .is-book .ensures) ∙ i .if1 .taken)
+    (omega (arith, w .put-first-line .ensures .next)) in
+    (head, p .plain-codes .ensures)
 
 returns : tie.Need-returns
 returns c =
-    let w = c .before .before .before in
-    let i = w .before .before .before in
+    let w = c .before .before .before .before in
+    let i = w .before .before .before .before in
     let a = i .before .before .before .args in
     let head : Put (a .out .now) 0 headLine (w .put-first-line .result) (w .put-first-line .last .0) =
     w .put-first-line .ensures in
@@ -51,6 +57,7 @@ listing-spec =
     tie.close
     (tie.spec
     is-book-requires
+    plain-codes-requires
     slice-aggregate-put-first-line
     put-first-line-requires
     put-lines-requires

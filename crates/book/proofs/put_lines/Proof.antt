@@ -14,13 +14,13 @@ use Rattle.book.proofs.put_lines.Statement.{statement}
 use Rattle.book.proofs.put_lines.Tie as tie
 
 abbrev Inv-loop : tie.InvT-loop
-Inv-loop book out₀ start log₀ at₀ offset₀ commands₀ accepted₀ out log at offset commands accepted = LinesLeft book out₀ start out at offset commands accepted
+Inv-loop book out₀ start codes log₀ at₀ offset₀ commands₀ accepted₀ out log at offset commands accepted = LinesLeft book out₀ start out at offset commands accepted
 
 abbrev μ-loop : tie.MeasureT-loop
-μ-loop book out₀ start log₀ at₀ offset₀ commands₀ accepted₀ out log at offset commands accepted = length book - offset
+μ-loop book out₀ start codes log₀ at₀ offset₀ commands₀ accepted₀ out log at offset commands accepted = length book - offset
 
 loop-holds : tie.Need-loop-holds Inv-loop μ-loop
-loop-holds c = first-turn (c .before .pre)
+loop-holds c = first-turn (c .before .pre .0)
 
 is-cut-requires : tie.Need-is-cut-requires Inv-loop μ-loop
 is-cut-requires c κs = search needs
@@ -39,11 +39,14 @@ returns c =
     let line = line-fits (omega arith) (c .put-cut-line .ensures) in
     record {
       put = turn-cut inv (l .loop-test .taken) (sym (i .is-cut .ensures) ∙ c .before .before .if1 .taken) (line .put);
-      within = omega (arith, line .within, inv .fits, inv .inside, l .before .before .before .pre .short);
+      within = omega (arith, line .within, inv .fits, inv .inside, l .before .before .before .pre .0 .short);
     }
 
 verdict-at-requires : tie.Need-verdict-at-requires Inv-loop μ-loop
-verdict-at-requires c κs = (search needs, sym (c .before .before .is-cut .ensures) ∙ c .before .if1 .left)
+verdict-at-requires c κs =
+    let i = c .before .before in
+    let st = i .before .before .before .before in
+    ((search needs, sym (i .is-cut .ensures) ∙ c .before .if1 .left), st .pre .1)
 
 add-commands : tie.Need-add-commands Inv-loop μ-loop
 add-commands c = search needs
@@ -86,13 +89,14 @@ loop-again c =
     let e = v .before .before in
     let l = e .before .before in
     let o = l .before .loop in
+    let head = l .before .before .before .pre .0 in
     let result = v .verdict-at .result in
     let line : Put (o .out) (o .at) (commandLine (o .commands + 1) (o .offset) result) (p .put-command-line .result)
     (p .put-command-line .last .0) = line-fits (omega arith) (p .put-command-line .ensures) .put in
     -- each field of the verdict has 32 bits
     let fields = v .verdict-at .ok .1 .1 in
     let short =
-    command-line-short (o .commands + 1) (o .offset) result (omega arith) (omega arith) (fields .0 .1) (fields .1 .0 .1)
+    command-line-short (o .commands + 1) (o .offset) result (omega (arith, head)) (omega (arith, head)) (fields .0 .1) (fields .1 .0 .1)
     (fields .1 .1 .0 .1) (fields .1 .1 .1 .0 .1) in
     rw (c .number3 .ensures .is, a .acceptance-of .ensures)
     (next-turn (o .inv) (l .loop-test .taken) (sym (e .before .is-cut .ensures) ∙ e .if1 .left) (v .verdict-at .ensures)
@@ -108,7 +112,7 @@ returns-2 c =
     let line = line-fits (omega arith) (c .put-end-line .ensures) in
     record {
       put = turn-end (o .inv) (l .loop-test .left) (line .put);
-      within = omega (arith, line .within, o .inv .fits, o .inv .inside, l .before .before .before .pre .short);
+      within = omega (arith, line .within, o .inv .fits, o .inv .inside, l .before .before .before .pre .0 .short);
     }
 
 pub put-lines-spec : {M : Type 1} → statement M

@@ -7,6 +7,7 @@ use native.Mathlib.Omega.{arith}
 use Rattle.rules.specs.Command.{commandVerdict}
 use Rattle.rules.specs.Book.{lengthOf}
 use Rattle.book.proofs.Cuts.{whole}
+use Rattle.reader.proofs.Order.{table-verdict}
 use Rattle.book.proofs.verdict_at.Statement.{statement}
 use Rattle.book.proofs.verdict_at.Tie as tie
 
@@ -22,19 +23,19 @@ cast-end c = search needs
 add-end : tie.Need-add-end
 add-end c = search needs
 
-sub-verdict : tie.Need-sub-verdict
-sub-verdict c = search needs
+sub-verdict-by : tie.Need-sub-verdict-by
+sub-verdict-by c = search needs
 
-part-verdict-start : tie.Need-part-verdict-start
-part-verdict-start c = search needs
+part-verdict-by-start : tie.Need-part-verdict-by-start
+part-verdict-by-start c = search needs
 
-part-verdict-end : tie.Need-part-verdict-end
-part-verdict-end c =
+part-verdict-by-end : tie.Need-part-verdict-by-end
+part-verdict-by-end c =
     let s = c .before .before in
-    omega (arith, whole (s .args .book .now) (s .args .offset) (s .pre .1), c .number3 .ensures .is)
+    omega (arith, whole (s .args .book .now) (s .args .offset) (s .pre .0 .1), c .number3 .ensures .is)
 
-verdict-requires : tie.Need-verdict-requires
-verdict-requires c κs = search needs
+verdict-by-requires : tie.Need-verdict-by-requires
+verdict-by-requires c κs = search needs
 
 returns : tie.Need-returns
 returns c =
@@ -42,7 +43,8 @@ returns c =
     let s = n .before .before in
     let same : s .args .offset + n .number3 .result - s .args .offset ≡ lengthOf (s .args .book .now) (s .args .offset) =
     omega (arith, n .number3 .ensures .is) in
-    c .verdict .ensures .answer ∙ ap (λ (l : ℕ). commandVerdict (take l (drop (s .args .offset) (s .args .book .now)))) same
+    c .verdict-by .ensures .answer ∙ table-verdict _ (s .pre .1) _
+    ∙ ap (λ (l : ℕ). commandVerdict (take l (drop (s .args .offset) (s .args .book .now)))) same
 
 pub verdict-at-spec : {M : Type 1} → statement M
 verdict-at-spec =
@@ -52,8 +54,8 @@ verdict-at-spec =
     number3-requires
     cast-end
     add-end
-    sub-verdict
-    part-verdict-start
-    part-verdict-end
-    verdict-requires
+    sub-verdict-by
+    part-verdict-by-start
+    part-verdict-by-end
+    verdict-by-requires
     returns)

@@ -1,30 +1,27 @@
--- `dictionary::members` meets its contract.
+-- `dictionary::members` meets its contract: an arm knows the code of a group, and `_` that it is no group's.
 use borrow.Author.Needs.{needs}
-use mathlib.Core.Path.{_∙_, ap}
-use mathlib.Core.List.{[], _∷_}
-use Rattle.rules.specs.Dictionary.{dictionary, membersOf}
-use Rattle.rules.proofs.Names.{find-absent-vendor}
+use Rattle.rules.specs.Dictionary.{dictionary}
 use Rattle.rules.proofs.Outcomes.{answers}
+use Rattle.dictionary.specs.Entries.{numberWhere, definitionAt, vendorAt}
+use Rattle.dictionary.proofs.Entries.{members-at, no-members}
 use Rattle.dictionary.proofs.members.Statement.{statement}
 use Rattle.dictionary.proofs.members.Tie as tie
 
-members-without-vendor-requires : tie.Need-members-without-vendor-requires
-members-without-vendor-requires c κs = search needs
-
-members-of-3gpp-requires : tie.Need-members-of-3gpp-requires
-members-of-3gpp-requires c κs = search needs
-
-returns : tie.Need-returns
-returns c = answers _ _ _ (c .members-without-vendor .ensures ∙ rw (c .before .match .keys1))
-
-returns-2 : tie.Need-returns-2
-returns-2 c = answers _ _ _ (c .members-of-3gpp .ensures ∙ rw (c .before .match .keys2))
-
-returns-3 : tie.Need-returns-3
-unfolding dictionary
-returns-3 c = answers _ _ _ (ap membersOf (find-absent-vendor dictionary (10415 ∷ 0 ∷ []) _ (c .before .args .code) tt (c .match .rest)))
-
 pub members-spec : {M : Type 1} → statement M
+unfolding numberWhere definitionAt vendorAt dictionary
 members-spec =
     tie.close
-    (tie.spec members-without-vendor-requires members-of-3gpp-requires returns returns-2 returns-3)
+    (tie.spec
+    (λ c κs. search needs)
+    (λ c κs. search needs)
+    (λ c κs. search needs)
+    (λ c κs. search needs)
+    (λ c κs. search needs)
+    (λ c κs. search needs)
+    (λ c. members-at dictionary _ tt (c .before .match .keys1) (c .under .ensures))
+    (λ c. members-at dictionary _ tt (c .before .match .keys2) (c .under2 .ensures))
+    (λ c. members-at dictionary _ tt (c .before .match .keys3) (c .under3 .ensures))
+    (λ c. members-at dictionary _ tt (c .before .match .keys4) (c .under4 .ensures))
+    (λ c. members-at dictionary _ tt (c .before .match .keys5) (c .under5 .ensures))
+    (λ c. members-at dictionary _ tt (c .before .match .keys6) (c .under6 .ensures))
+    (λ c. answers _ _ _ (no-members dictionary _ _ (c .match .rest))))

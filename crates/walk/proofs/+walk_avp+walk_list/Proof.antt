@@ -3,9 +3,11 @@
 use borrow.Author.Needs.{needs}
 use native.Mathlib.Omega.{arith}
 use mathlib.Core.Path.{_≡_, sym, _∙_}
+use mathlib.Core.List.{List}
 use Prim.Native.Nat.{ℕ, _+_, _-_, _*_, _<_}
 use Rattle.rules.specs.declared.Checked.the-variants.{Group}
-use Rattle.rules.specs.Dictionary.{dictionary}
+use Rattle.dictionary.specs.Table.{dictionaryBy}
+use Rattle.rules.specs.Dictionary.{Entry}
 use Rattle.rules.specs.Walk.{Standing, standing, checked}
 use Rattle.rules.proofs.Passed.{group-framed}
 use Rattle.walk.specs.Promise.{nextAfter, stepTo, AvpWalked}
@@ -25,25 +27,25 @@ use Rattle.walk.proofs.frame.next_after.Reads as next-after-reads
 use Rattle.walk.proofs.+walk_avp+walk_list.{statement}
 use Rattle.walk.proofs.+walk_avp+walk_list.Tie.{close}
 
-abbrev μ-walk-avp : Measures 2 walk-avp-kinds.ps ℕ
+abbrev μ-walk-avp : Measures 3 walk-avp-kinds.ps ℕ
 μ-walk-avp κs a = 2 * (4 - a .1 .1 .1 .0)
 
-abbrev μ-walk-list : Measures 2 walk-list-kinds.ps ℕ
+abbrev μ-walk-list : Measures 3 walk-list-kinds.ps ℕ
 μ-walk-list κs a = 2 * (4 - a .1 .1 .1 .0) + 1
 
-abbrev walk-avp-at : ℕ → In 2 walk-avp-kinds.ps
-walk-avp-at t = and 2 walk-avp-kinds.ps (is 2 walk-avp-kinds.ps μ-walk-avp t) walk-avp.Pre
+abbrev walk-avp-at : ℕ → In 3 walk-avp-kinds.ps
+walk-avp-at t = and 3 walk-avp-kinds.ps (is 3 walk-avp-kinds.ps μ-walk-avp t) walk-avp.Pre
 
-abbrev walk-avp-below : ℕ → In 2 walk-avp-kinds.ps
+abbrev walk-avp-below : ℕ → In 3 walk-avp-kinds.ps
 walk-avp-below t =
-    and 2 walk-avp-kinds.ps (falls 2 walk-avp-kinds.ps _<_ μ-walk-avp t) walk-avp.Pre
+    and 3 walk-avp-kinds.ps (falls 3 walk-avp-kinds.ps _<_ μ-walk-avp t) walk-avp.Pre
 
-abbrev walk-list-at : ℕ → In 2 walk-list-kinds.ps
-walk-list-at t = and 2 walk-list-kinds.ps (is 2 walk-list-kinds.ps μ-walk-list t) walk-list.Pre
+abbrev walk-list-at : ℕ → In 3 walk-list-kinds.ps
+walk-list-at t = and 3 walk-list-kinds.ps (is 3 walk-list-kinds.ps μ-walk-list t) walk-list.Pre
 
-abbrev walk-list-below : ℕ → In 2 walk-list-kinds.ps
+abbrev walk-list-below : ℕ → In 3 walk-list-kinds.ps
 walk-list-below t =
-    and 2 walk-list-kinds.ps (falls 2 walk-list-kinds.ps _<_ μ-walk-list t) walk-list.Pre
+    and 3 walk-list-kinds.ps (falls 3 walk-list-kinds.ps _<_ μ-walk-list t) walk-list.Pre
 
 -- what the calls of the AVP walk ask and tell
 abbrev walk-avp-claims : ℕ → walk-avp-lts.Claims
@@ -57,6 +59,10 @@ walk-avp-claims t = (
   walk-list-below t,
   walk-list.Post,
 )
+
+-- the dictionary that the AVP walk goes by
+abbrev dict : (t : ℕ) → walk-avp-lts.Start (walk-avp-claims t) (walk-avp-at t) walk-avp.Post → List Entry
+dict t st = dictionaryBy (st .args .codes .now)
 
 -- where the AVP walk stands
 abbrev here : (t : ℕ) → walk-avp-lts.Start (walk-avp-claims t) (walk-avp-at t) walk-avp.Post → Standing
@@ -74,8 +80,8 @@ walk-avp-enum-known-c-2 t c = search needs
 walk-avp-put-requires : (t : ℕ) → walk-avp-lts.Need-put-requires (walk-avp-claims t) (walk-avp-at t) walk-avp.Post
 walk-avp-put-requires t c κs = search needs
 
-walk-avp-add-t19 : (t : ℕ) → walk-avp-lts.Need-add-t19 (walk-avp-claims t) (walk-avp-at t) walk-avp.Post
-walk-avp-add-t19 t c = omega arith
+walk-avp-add-t20 : (t : ℕ) → walk-avp-lts.Need-add-t20 (walk-avp-claims t) (walk-avp-at t) walk-avp.Post
+walk-avp-add-t20 t c = omega arith
 
 walk-avp-next-after-requires : (t : ℕ) → walk-avp-lts.Need-next-after-requires (walk-avp-claims t) (walk-avp-at t) walk-avp.Post
 walk-avp-next-after-requires t c κs = search needs
@@ -95,14 +101,14 @@ walk-avp-cast-length t c = search needs
 -- a group that passed, from its place in the walk on
 group-checked : (t : ℕ) (g : walk-avp-lts.After-c3 (walk-avp-claims t) (walk-avp-at t) walk-avp.Post) →
     let k = g .before .before in
-    checked dictionary (k .before .before .args .s .now) (here t (k .before .before)) ≡ Group (g .c3 .given .0 .0)
+    checked (dict t (k .before .before)) (k .before .before .args .s .now) (here t (k .before .before)) ≡ Group (g .c3 .given .0 .0)
 group-checked t g = sym (g .before .before .check .ensures) ∙ g .c3 .given .1
 
 walk-avp-add-walk-list : (t : ℕ) → walk-avp-lts.Need-add-walk-list (walk-avp-claims t) (walk-avp-at t) walk-avp.Post
 walk-avp-add-walk-list t c =
     let g = c .before .before .before .before .before in
     let st = g .before .before .before .before in
-    let p = group-framed dictionary (st .args .s .now) (here t st) (group-checked t g) in
+    let p = group-framed (dict t st) (st .args .s .now) (here t st) (group-checked t g) in
     omega (arith, p, st .pre .1 .place)
 
 walk-avp-add-walk-list-2 : (t : ℕ) → walk-avp-lts.Need-add-walk-list-2 (walk-avp-claims t) (walk-avp-at t) walk-avp.Post
@@ -117,9 +123,9 @@ walk-avp-walk-list-requires t c κs =
     let st = g .before .before .before .before in
     let s = st .args .s .now in
     let e = group-checked t g in
-    let p = group-framed dictionary s (here t st) e in
-    let l = group-level s (here t st) e in
-    let few = group-few s (here t st) e in
+    let p = group-framed (dict t st) s (here t st) e in
+    let l = group-level (dict t st) s (here t st) e in
+    let few = group-few (dict t st) s (here t st) e in
     let place = st .pre .1 .place in (
       omega (arith, l, st .pre .0),
       record { place = omega (arith, p, place); level = omega (arith, l); few = omega (arith, few) },
@@ -139,7 +145,7 @@ walk-avp-returns t c =
     let k = c .before .before .before in
     let st = k .before .before in
     let a = st .args in
-    fault-walked (a .s .now) (here t st) (a .log .now) _ (sym (k .check .ensures) ∙ c .before .c .given .1)
+    fault-walked (dict t st) (a .s .now) (here t st) (a .log .now) _ (sym (k .check .ensures) ∙ c .before .c .given .1)
 
 walk-avp-returns-2 : (t : ℕ) → walk-avp-lts.Need-returns-2 (walk-avp-claims t) (walk-avp-at t) walk-avp.Post
 walk-avp-returns-2 t c =
@@ -149,21 +155,21 @@ walk-avp-returns-2 t c =
     let st = k .before .before in
     let a = st .args in
     rw (c .next-after .ensures)
-    (plain-walked (a .s .now) (here t st) (a .log .now) _ (p .put .ensures) (sym (k .check .ensures) ∙ g .c2 .given .1))
+    (plain-walked (dict t st) (a .s .now) (here t st) (a .log .now) _ (p .put .ensures) (sym (k .check .ensures) ∙ g .c2 .given .1))
 
 -- what is promised, with the group and what the walk of its members gave
 group-promise : (t : ℕ) (l : walk-avp-lts.After-walk-list (walk-avp-claims t) (walk-avp-at t) walk-avp.Post) →
     let g = l .before .before .before .before .before .before .before in
     let st = g .before .before .before .before in
-    AvpWalked (st .args .s .now) (here t st) (st .args .log .now)
-    (stepTo (nextAfter (g .c3 .given .0 .0)) (l .walk-list .result)) (l .walk-list .last .1 .1 .1 .1 .1 .0)
+    AvpWalked (dict t st) (st .args .s .now) (here t st) (st .args .log .now)
+    (stepTo (nextAfter (g .c3 .given .0 .0)) (l .walk-list .result)) (l .walk-list .last .1 .1 .1 .1 .1 .1 .0)
 group-promise t l =
     let w = l .before .before .before .before in
     let g = w .before .before .before in
     let st = g .before .before .before .before in
     let a = st .args in
-    group-walked (a .s .now) (here t st) (a .log .now) _ (w .put2 .ensures) (group-checked t g)
-    (l .walk-list .result) (l .walk-list .last .1 .1 .1 .1 .1 .0) (l .walk-list .ensures)
+    group-walked (dict t st) (a .s .now) (here t st) (a .log .now) _ (w .put2 .ensures) (group-checked t g)
+    (l .walk-list .result) (l .walk-list .last .1 .1 .1 .1 .1 .1 .0) (l .walk-list .ensures)
 
 walk-avp-returns-3 : (t : ℕ) → walk-avp-lts.Need-returns-3 (walk-avp-claims t) (walk-avp-at t) walk-avp.Post
 walk-avp-returns-3 t c =
@@ -174,10 +180,11 @@ walk-avp-returns-4 : (t : ℕ) → walk-avp-lts.Need-returns-4 (walk-avp-claims 
 walk-avp-returns-4 t c = rw (c .before .members2 .given .1) at (group-promise t (c .before .before .before))
 
 abbrev walk-list-Inv-loop : walk-list-lts.InvT-loop
-walk-list-Inv-loop s at end depth count log₀ place₀ met₀ log place met = Turn s (standing at end depth count) log₀ place met log
+walk-list-Inv-loop s at end depth count codes log₀ place₀ met₀ log place met =
+    Turn (dictionaryBy codes) s (standing at end depth count) log₀ place met log
 
 abbrev walk-list-μ-loop : walk-list-lts.MeasureT-loop
-walk-list-μ-loop s at end depth count log₀ place₀ met₀ log place met = end - place
+walk-list-μ-loop s at end depth count codes log₀ place₀ met₀ log place met = end - place
 
 walk-list-loop-holds :
     (t : ℕ) →
@@ -189,7 +196,7 @@ walk-list-loop-holds :
     walk-list-μ-loop
 walk-list-loop-holds t c =
     let st = c .before in
-    turn-start _ _ _ (st .pre .1 .place .order) (st .pre .1 .few)
+    turn-start _ _ _ _ (st .pre .1 .place .order) (st .pre .1 .few)
 
 walk-list-walk-avp-requires : (t : ℕ) → walk-list-lts.Need-walk-avp-requires (
   walk-avp-below t,
@@ -233,7 +240,7 @@ walk-list-loop-again :
 walk-list-loop-again t c =
     let w = c .before .before .before in
     let lp = w .before .before .before in
-    turn-again _ _ _ _ _ _ (lp .loop .inv) (w .before .before .loop-test .taken) _ _ _
+    turn-again _ _ _ _ _ _ _ (lp .loop .inv) (w .before .before .loop-test .taken) _ _ _
     (rw (c .before .one .given .1) at (w .walk-avp .ensures))
 
 walk-list-enum-known-one-2 : (t : ℕ) → walk-list-lts.Need-enum-known-one-2 (
@@ -253,8 +260,8 @@ walk-list-returns :
 walk-list-returns t c =
     let w = c .before .before .before in
     let lp = w .before .before .before in
-    turn-stopped _ _ _ _ _ _ (lp .loop .inv) (w .before .before .loop-test .taken) (c .before .one2 .given .0 .0)
-    (w .walk-avp .last .1 .1 .1 .1 .1 .0) (rw (c .before .one2 .given .1) at (w .walk-avp .ensures))
+    turn-stopped _ _ _ _ _ _ _ (lp .loop .inv) (w .before .before .loop-test .taken) (c .before .one2 .given .0 .0)
+    (w .walk-avp .last .1 .1 .1 .1 .1 .1 .0) (rw (c .before .one2 .given .1) at (w .walk-avp .ensures))
 
 walk-list-returns-2 :
     (t : ℕ) →
@@ -264,7 +271,7 @@ walk-list-returns-2 :
     walk-list.Post
     walk-list-Inv-loop
     walk-list-μ-loop
-walk-list-returns-2 t c = turn-end _ _ _ _ _ _ (c .before .loop .inv) (c .loop-test .left)
+walk-list-returns-2 t c = turn-end _ _ _ _ _ _ _ (c .before .loop .inv) (c .loop-test .left)
 
 pub +walk-avp+walk-list-spec : {M : Type 1} → statement M
 +walk-avp+walk-list-spec = close μ-walk-avp μ-walk-list (λ t. walk-avp-lts.spec (walk-avp-claims t)
@@ -274,7 +281,7 @@ pub +walk-avp+walk-list-spec : {M : Type 1} → statement M
     (walk-avp-enum-known-c t)
     (walk-avp-enum-known-c-2 t)
     (walk-avp-put-requires t)
-    (walk-avp-add-t19 t)
+    (walk-avp-add-t20 t)
     (walk-avp-next-after-requires t)
     (walk-avp-enum-known-c-3 t)
     (walk-avp-put-requires-2 t)

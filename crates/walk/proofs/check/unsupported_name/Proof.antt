@@ -1,22 +1,20 @@
 -- `walk::check::unsupported_name` meets its contract.
 use borrow.Author.Needs.{needs}
+use mathlib.Core.Path.{sym, _∙_}
 use Rattle.rules.specs.Walk.{unsupported}
 use Rattle.walk.proofs.check.unsupported_name.Statement.{statement}
 use Rattle.walk.proofs.check.unsupported_name.Tie as tie
 
-enum-told : tie.Need-enum-told
-enum-told c = search needs
-
-enum-told-2 : tie.Need-enum-told-2
-enum-told-2 c = search needs
+is-known-requires : tie.Need-is-known-requires
+is-known-requires c κs = search needs
 
 returns : tie.Need-returns
 unfolding unsupported
-returns c = search needs
+returns c = rw (sym (c .before .is-known .ensures) ∙ c .if1 .taken)
 
 returns-2 : tie.Need-returns-2
 unfolding unsupported
-returns-2 c = search needs
+returns-2 c = rw (sym (c .before .is-known .ensures) ∙ c .if1 .left)
 
 pub unsupported-name-spec : {M : Type 1} → statement M
-unsupported-name-spec = tie.close (tie.spec enum-told enum-told-2 returns returns-2)
+unsupported-name-spec = tie.close (tie.spec is-known-requires returns returns-2)

@@ -1,107 +1,11 @@
-// The AVP kinds of document 01's dictionary: Vendor-Id, AVP code and, where it is fixed, the width of the data, as
-// constants of each kind. The dictionary, the rows and the exchange rules name an AVP by these alone.
+// The AVP kinds of document 01's dictionary, in its order: Vendor-Id, AVP code and, where it is fixed, the width of the
+// data, as constants of each kind; and the number of its entry, which is its position in the dictionary. The dictionary,
+// the rows and the exchange rules name an AVP by these alone.
+use rules::limits::NO_VENDOR;
+use rules::limits::VENDOR_3GPP;
 
-pub const NO_VENDOR: u32 = 0;
-
-pub const VENDOR_3GPP: u32 = 10415;
-
-// RFC 6733: any length
-
-pub struct SessionId;
-
-impl SessionId {
-    pub const VENDOR: u32 = NO_VENDOR;
-
-    pub const CODE: u32 = 263;
-}
-
-pub struct OriginHost;
-
-impl OriginHost {
-    pub const VENDOR: u32 = NO_VENDOR;
-
-    pub const CODE: u32 = 264;
-}
-
-pub struct OriginRealm;
-
-impl OriginRealm {
-    pub const VENDOR: u32 = NO_VENDOR;
-
-    pub const CODE: u32 = 296;
-}
-
-pub struct DestinationHost;
-
-impl DestinationHost {
-    pub const VENDOR: u32 = NO_VENDOR;
-
-    pub const CODE: u32 = 293;
-}
-
-pub struct DestinationRealm;
-
-impl DestinationRealm {
-    pub const VENDOR: u32 = NO_VENDOR;
-
-    pub const CODE: u32 = 283;
-}
-
-pub struct ErrorMessage;
-
-impl ErrorMessage {
-    pub const VENDOR: u32 = NO_VENDOR;
-
-    pub const CODE: u32 = 281;
-}
-
-pub struct ErrorReportingHost;
-
-impl ErrorReportingHost {
-    pub const VENDOR: u32 = NO_VENDOR;
-
-    pub const CODE: u32 = 294;
-}
-
-pub struct RedirectHost;
-
-impl RedirectHost {
-    pub const VENDOR: u32 = NO_VENDOR;
-
-    pub const CODE: u32 = 292;
-}
-
-pub struct ProxyHost;
-
-impl ProxyHost {
-    pub const VENDOR: u32 = NO_VENDOR;
-
-    pub const CODE: u32 = 280;
-}
-
-pub struct ProxyState;
-
-impl ProxyState {
-    pub const VENDOR: u32 = NO_VENDOR;
-
-    pub const CODE: u32 = 33;
-}
-
-pub struct RouteRecord;
-
-impl RouteRecord {
-    pub const VENDOR: u32 = NO_VENDOR;
-
-    pub const CODE: u32 = 282;
-}
-
-pub struct FailedAvp;
-
-impl FailedAvp {
-    pub const VENDOR: u32 = NO_VENDOR;
-
-    pub const CODE: u32 = 279;
-}
+// The number of a name that has no entry: behind the last one.
+pub const NO_ENTRY: u8 = 48;
 
 // RFC 6733: four octets
 
@@ -113,6 +17,8 @@ impl AuthApplicationId {
     pub const CODE: u32 = 258;
 
     pub const WIDTH: u32 = 4;
+
+    pub const ENTRY: u8 = 0;
 }
 
 pub struct AcctApplicationId;
@@ -123,6 +29,8 @@ impl AcctApplicationId {
     pub const CODE: u32 = 259;
 
     pub const WIDTH: u32 = 4;
+
+    pub const ENTRY: u8 = 1;
 }
 
 pub struct RedirectHostUsage;
@@ -133,6 +41,8 @@ impl RedirectHostUsage {
     pub const CODE: u32 = 261;
 
     pub const WIDTH: u32 = 4;
+
+    pub const ENTRY: u8 = 2;
 }
 
 pub struct RedirectMaxCacheTime;
@@ -143,6 +53,8 @@ impl RedirectMaxCacheTime {
     pub const CODE: u32 = 262;
 
     pub const WIDTH: u32 = 4;
+
+    pub const ENTRY: u8 = 3;
 }
 
 pub struct VendorId;
@@ -153,6 +65,8 @@ impl VendorId {
     pub const CODE: u32 = 266;
 
     pub const WIDTH: u32 = 4;
+
+    pub const ENTRY: u8 = 4;
 }
 
 pub struct ResultCode;
@@ -163,6 +77,8 @@ impl ResultCode {
     pub const CODE: u32 = 268;
 
     pub const WIDTH: u32 = 4;
+
+    pub const ENTRY: u8 = 5;
 }
 
 pub struct AuthSessionState;
@@ -173,6 +89,8 @@ impl AuthSessionState {
     pub const CODE: u32 = 277;
 
     pub const WIDTH: u32 = 4;
+
+    pub const ENTRY: u8 = 6;
 }
 
 pub struct OriginStateId;
@@ -183,6 +101,8 @@ impl OriginStateId {
     pub const CODE: u32 = 278;
 
     pub const WIDTH: u32 = 4;
+
+    pub const ENTRY: u8 = 7;
 }
 
 pub struct ExperimentalResultCode;
@@ -193,6 +113,132 @@ impl ExperimentalResultCode {
     pub const CODE: u32 = 298;
 
     pub const WIDTH: u32 = 4;
+
+    pub const ENTRY: u8 = 8;
+}
+
+// RFC 6733: any length
+
+pub struct SessionId;
+
+impl SessionId {
+    pub const VENDOR: u32 = NO_VENDOR;
+
+    pub const CODE: u32 = 263;
+
+    pub const ENTRY: u8 = 9;
+}
+
+pub struct OriginHost;
+
+impl OriginHost {
+    pub const VENDOR: u32 = NO_VENDOR;
+
+    pub const CODE: u32 = 264;
+
+    pub const ENTRY: u8 = 10;
+}
+
+pub struct OriginRealm;
+
+impl OriginRealm {
+    pub const VENDOR: u32 = NO_VENDOR;
+
+    pub const CODE: u32 = 296;
+
+    pub const ENTRY: u8 = 11;
+}
+
+pub struct DestinationHost;
+
+impl DestinationHost {
+    pub const VENDOR: u32 = NO_VENDOR;
+
+    pub const CODE: u32 = 293;
+
+    pub const ENTRY: u8 = 12;
+}
+
+pub struct DestinationRealm;
+
+impl DestinationRealm {
+    pub const VENDOR: u32 = NO_VENDOR;
+
+    pub const CODE: u32 = 283;
+
+    pub const ENTRY: u8 = 13;
+}
+
+pub struct RedirectHost;
+
+impl RedirectHost {
+    pub const VENDOR: u32 = NO_VENDOR;
+
+    pub const CODE: u32 = 292;
+
+    pub const ENTRY: u8 = 14;
+}
+
+pub struct ProxyHost;
+
+impl ProxyHost {
+    pub const VENDOR: u32 = NO_VENDOR;
+
+    pub const CODE: u32 = 280;
+
+    pub const ENTRY: u8 = 15;
+}
+
+pub struct ProxyState;
+
+impl ProxyState {
+    pub const VENDOR: u32 = NO_VENDOR;
+
+    pub const CODE: u32 = 33;
+
+    pub const ENTRY: u8 = 16;
+}
+
+pub struct RouteRecord;
+
+impl RouteRecord {
+    pub const VENDOR: u32 = NO_VENDOR;
+
+    pub const CODE: u32 = 282;
+
+    pub const ENTRY: u8 = 17;
+}
+
+pub struct FailedAvp;
+
+impl FailedAvp {
+    pub const VENDOR: u32 = NO_VENDOR;
+
+    pub const CODE: u32 = 279;
+
+    pub const ENTRY: u8 = 18;
+}
+
+// RFC 6733: any length, M free
+
+pub struct ErrorMessage;
+
+impl ErrorMessage {
+    pub const VENDOR: u32 = NO_VENDOR;
+
+    pub const CODE: u32 = 281;
+
+    pub const ENTRY: u8 = 19;
+}
+
+pub struct ErrorReportingHost;
+
+impl ErrorReportingHost {
+    pub const VENDOR: u32 = NO_VENDOR;
+
+    pub const CODE: u32 = 294;
+
+    pub const ENTRY: u8 = 20;
 }
 
 // RFC 6733: groups
@@ -203,6 +249,8 @@ impl VendorSpecificApplicationId {
     pub const VENDOR: u32 = NO_VENDOR;
 
     pub const CODE: u32 = 260;
+
+    pub const ENTRY: u8 = 21;
 }
 
 pub struct ExperimentalResult;
@@ -211,6 +259,8 @@ impl ExperimentalResult {
     pub const VENDOR: u32 = NO_VENDOR;
 
     pub const CODE: u32 = 297;
+
+    pub const ENTRY: u8 = 22;
 }
 
 pub struct ProxyInfo;
@@ -219,9 +269,11 @@ impl ProxyInfo {
     pub const VENDOR: u32 = NO_VENDOR;
 
     pub const CODE: u32 = 284;
+
+    pub const ENTRY: u8 = 23;
 }
 
-// RFC 4006
+// RFC 4006: four octets
 
 pub struct RatingGroup;
 
@@ -231,7 +283,11 @@ impl RatingGroup {
     pub const CODE: u32 = 432;
 
     pub const WIDTH: u32 = 4;
+
+    pub const ENTRY: u8 = 24;
 }
+
+// RFC 4006: eight octets
 
 pub struct CcInputOctets;
 
@@ -241,6 +297,8 @@ impl CcInputOctets {
     pub const CODE: u32 = 412;
 
     pub const WIDTH: u32 = 8;
+
+    pub const ENTRY: u8 = 25;
 }
 
 pub struct CcOutputOctets;
@@ -251,6 +309,8 @@ impl CcOutputOctets {
     pub const CODE: u32 = 414;
 
     pub const WIDTH: u32 = 8;
+
+    pub const ENTRY: u8 = 26;
 }
 
 pub struct CcTotalOctets;
@@ -261,9 +321,11 @@ impl CcTotalOctets {
     pub const CODE: u32 = 421;
 
     pub const WIDTH: u32 = 8;
+
+    pub const ENTRY: u8 = 27;
 }
 
-// No vendor, M free
+// No vendor, M free: four octets
 
 pub struct Drmp;
 
@@ -273,7 +335,11 @@ impl Drmp {
     pub const CODE: u32 = 301;
 
     pub const WIDTH: u32 = 4;
+
+    pub const ENTRY: u8 = 28;
 }
+
+// No vendor, M free: any length
 
 pub struct OcSupportedFeatures;
 
@@ -281,6 +347,8 @@ impl OcSupportedFeatures {
     pub const VENDOR: u32 = NO_VENDOR;
 
     pub const CODE: u32 = 621;
+
+    pub const ENTRY: u8 = 29;
 }
 
 pub struct OcOlr;
@@ -289,6 +357,8 @@ impl OcOlr {
     pub const VENDOR: u32 = NO_VENDOR;
 
     pub const CODE: u32 = 623;
+
+    pub const ENTRY: u8 = 30;
 }
 
 pub struct Load;
@@ -297,9 +367,11 @@ impl Load {
     pub const VENDOR: u32 = NO_VENDOR;
 
     pub const CODE: u32 = 650;
+
+    pub const ENTRY: u8 = 31;
 }
 
-// 3GPP, M free
+// 3GPP, M free: four octets
 
 pub struct FeatureListId;
 
@@ -309,6 +381,8 @@ impl FeatureListId {
     pub const CODE: u32 = 629;
 
     pub const WIDTH: u32 = 4;
+
+    pub const ENTRY: u8 = 32;
 }
 
 pub struct FeatureList;
@@ -319,7 +393,11 @@ impl FeatureList {
     pub const CODE: u32 = 630;
 
     pub const WIDTH: u32 = 4;
+
+    pub const ENTRY: u8 = 33;
 }
+
+// 3GPP, M free: any length
 
 pub struct ApplicationServiceProviderIdentity;
 
@@ -327,6 +405,8 @@ impl ApplicationServiceProviderIdentity {
     pub const VENDOR: u32 = VENDOR_3GPP;
 
     pub const CODE: u32 = 532;
+
+    pub const ENTRY: u8 = 34;
 }
 
 pub struct PcrfAddress;
@@ -335,7 +415,11 @@ impl PcrfAddress {
     pub const VENDOR: u32 = VENDOR_3GPP;
 
     pub const CODE: u32 = 2207;
+
+    pub const ENTRY: u8 = 35;
 }
+
+// 3GPP, M free: a group
 
 pub struct SupportedFeatures;
 
@@ -343,9 +427,11 @@ impl SupportedFeatures {
     pub const VENDOR: u32 = VENDOR_3GPP;
 
     pub const CODE: u32 = 628;
+
+    pub const ENTRY: u8 = 36;
 }
 
-// 3GPP, M
+// 3GPP: four octets
 
 pub struct MaxRequestedBandwidthDl;
 
@@ -355,6 +441,8 @@ impl MaxRequestedBandwidthDl {
     pub const CODE: u32 = 515;
 
     pub const WIDTH: u32 = 4;
+
+    pub const ENTRY: u8 = 37;
 }
 
 pub struct MaxRequestedBandwidthUl;
@@ -365,6 +453,8 @@ impl MaxRequestedBandwidthUl {
     pub const CODE: u32 = 516;
 
     pub const WIDTH: u32 = 4;
+
+    pub const ENTRY: u8 = 38;
 }
 
 pub struct TransferRequestType;
@@ -375,6 +465,8 @@ impl TransferRequestType {
     pub const CODE: u32 = 4203;
 
     pub const WIDTH: u32 = 4;
+
+    pub const ENTRY: u8 = 39;
 }
 
 pub struct TransferEndTime;
@@ -385,6 +477,8 @@ impl TransferEndTime {
     pub const CODE: u32 = 4205;
 
     pub const WIDTH: u32 = 4;
+
+    pub const ENTRY: u8 = 40;
 }
 
 pub struct TransferStartTime;
@@ -395,6 +489,8 @@ impl TransferStartTime {
     pub const CODE: u32 = 4206;
 
     pub const WIDTH: u32 = 4;
+
+    pub const ENTRY: u8 = 41;
 }
 
 pub struct TransferPolicyId;
@@ -405,6 +501,8 @@ impl TransferPolicyId {
     pub const CODE: u32 = 4208;
 
     pub const WIDTH: u32 = 4;
+
+    pub const ENTRY: u8 = 42;
 }
 
 pub struct NumberOfUes;
@@ -415,7 +513,11 @@ impl NumberOfUes {
     pub const CODE: u32 = 4209;
 
     pub const WIDTH: u32 = 4;
+
+    pub const ENTRY: u8 = 43;
 }
+
+// 3GPP: any length
 
 pub struct NetworkAreaInfoList;
 
@@ -423,6 +525,8 @@ impl NetworkAreaInfoList {
     pub const VENDOR: u32 = VENDOR_3GPP;
 
     pub const CODE: u32 = 4201;
+
+    pub const ENTRY: u8 = 44;
 }
 
 pub struct ReferenceId;
@@ -431,7 +535,11 @@ impl ReferenceId {
     pub const VENDOR: u32 = VENDOR_3GPP;
 
     pub const CODE: u32 = 4202;
+
+    pub const ENTRY: u8 = 45;
 }
+
+// 3GPP: groups
 
 pub struct TimeWindow;
 
@@ -439,6 +547,8 @@ impl TimeWindow {
     pub const VENDOR: u32 = VENDOR_3GPP;
 
     pub const CODE: u32 = 4204;
+
+    pub const ENTRY: u8 = 46;
 }
 
 pub struct TransferPolicy;
@@ -447,4 +557,6 @@ impl TransferPolicy {
     pub const VENDOR: u32 = VENDOR_3GPP;
 
     pub const CODE: u32 = 4207;
+
+    pub const ENTRY: u8 = 47;
 }

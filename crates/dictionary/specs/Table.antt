@@ -1,0 +1,53 @@
+-- Request [6]: a table of plain codes, AVP codes without vendor from 0 to 650, which leads each to the number of its entry.
+-- What a table says is defined for whatever numbers it holds; `IsTable` is the rule of the right one.
+use mathlib.Core.Path.{_≡_}
+use Prim.Native.Nat.{ℕ, zero, suc}
+use mathlib.Core.List.{List, [], _∷_, _++_}
+use mathlib.Core.Bool.{cond}
+use lib.Dec.{eqb, leb}
+use lib.ListN.{length, getD}
+use Rattle.rules.specs.declared.Definition.{Definition}
+use Rattle.rules.specs.declared.Definition.the-variants.{Known, Unknown}
+use Rattle.rules.specs.Dictionary.{Entry, dictionary}
+use Rattle.dictionary.specs.Entries.{entryOf, definitionAt}
+
+-- the codes that a table has places for
+abbrev pub plainCodes : ℕ
+plainCodes = 651
+
+-- the number of a name that has no entry
+abbrev pub noEntry : ℕ
+noEntry = length dictionary
+
+-- what a table leads a code without vendor to
+unfoldable pub plainEntry : List ℕ → ℕ → ℕ
+plainEntry codes code = cond (leb plainCodes code) noEntry (getD codes code 0)
+
+-- the rule: for every code the table finds what a search of the dictionary finds
+pub record IsTable (codes : List ℕ) : Type 0 where
+  pub finds : (code : ℕ) → plainEntry codes code ≡ entryOf dictionary 0 code
+
+-- the entry of a name by a table: a name without vendor through the table, others by the search
+unfoldable pub entryBy : List ℕ → ℕ → ℕ → ℕ
+entryBy codes vendor code = cond (eqb vendor 0) (plainEntry codes code) (entryOf dictionary vendor code)
+
+-- ---- the dictionary that a table stands for; the right one stands for document 01's
+
+-- a code without vendor that is defined, before other entries
+abbrev pub consDefined : ℕ → Definition → List Entry → List Entry
+consDefined code (Known m form) es = record { vendor = 0; code = code; m = m; form = form } ∷ es
+consDefined code Unknown es = es
+
+-- the next n codes from one on, each as the entry says to which the table leads
+unfoldable pub plainFrom : List ℕ → ℕ → ℕ → List Entry
+plainFrom codes zero code = []
+plainFrom codes (suc n) code = consDefined code (definitionAt dictionary (getD codes code 0)) (plainFrom codes n (suc code))
+
+-- the entries that have a vendor
+abbrev pub withVendor : List Entry → List Entry
+withVendor [] = []
+withVendor (e ∷ es) = cond (eqb (e .vendor) 0) (withVendor es) (e ∷ withVendor es)
+
+-- plain codes by the table, and document 01's entries with a vendor
+unfoldable pub dictionaryBy : List ℕ → List Entry
+dictionaryBy codes = plainFrom codes plainCodes 0 ++ withVendor dictionary
