@@ -33,15 +33,15 @@ fn is_cut(book: &[u8], offset: usize) -> bool
 fn verdict_at(
     book: &[u8],
     offset: usize,
-    codes: &[u8; plain::PLAIN_CODES],
+    table: &[u8; plain::PLAIN_CODES],
     log: &mut [u32; limits::LOG_NUMBERS],
 ) -> Verdict
     requires place { ⌜ (offset < length (now book)) × (isCut (now book) offset ≡ false) ⌝ }
-    requires table { ⌜ IsTable (now codes) ⌝ }
+    requires table { ⌜ IsTable (now table) ⌝ }
     ensures { λ r. ⌜ r ≡ commandVerdict (commandIn (now (book .entry)) offset) ⌝ }
 {
     let end = offset + octets::number3(book, offset + 1) as usize;
-    reader::verdict_by(&book[offset..end], codes, log)
+    reader::verdict_by(&book[offset..end], table, log)
 }
 
 fn acceptance_of(v: Verdict) -> u64
@@ -53,17 +53,17 @@ fn acceptance_of(v: Verdict) -> u64
     0
 }
 
-// The lines behind the head line, by the table of plain codes, which is made once a book: one line for each command, then
-// `end` or a cut.
+// The lines behind the head line, by the table of plain codes, which is made once a book: one line for each command,
+// then `end` or a cut.
 fn put_lines(
     book: &[u8],
     out: &mut [u8; limits::LISTING_ROOM],
     start: usize,
-    codes: &[u8; plain::PLAIN_CODES],
+    table: &[u8; plain::PLAIN_CODES],
     log: &mut [u32; limits::LOG_NUMBERS],
 ) -> usize
     requires head { ⌜ HeadPut (now book) start ⌝ }
-    requires table { ⌜ IsTable (now codes) ⌝ }
+    requires table { ⌜ IsTable (now table) ⌝ }
     ensures { λ r. ⌜ PutWithin (room - 6) (now (out .entry)) start (linesOf (now (book .entry))) r (now (out .exit)) ⌝ }
 {
     let mut at = start;
@@ -74,7 +74,7 @@ fn put_lines(
         if is_cut(book, offset) {
             return lines::put_cut_line(out, at, commands + 1, offset as u64);
         }
-        let v = verdict_at(book, offset, codes, log);
+        let v = verdict_at(book, offset, table, log);
         commands += 1;
         at = lines::put_command_line(out, at, commands, offset as u64, v);
         accepted += acceptance_of(v);
@@ -112,10 +112,10 @@ pub fn listing(book: &[u8], out: &mut [u8; limits::LISTING_ROOM]) -> usize
     ensures { λ r. ⌜ ListingPut (now (book .entry)) (now (out .entry)) r (now (out .exit)) ⌝ }
 {
     if is_book(book) {
-        let codes = dictionary::plain_codes();
+        let table = dictionary::plain_table();
         let mut log = [0u32; limits::LOG_NUMBERS];
         let start = put_first_line(out, b"NTB 1\n");
-        return put_lines(book, out, start, &codes, &mut log);
+        return put_lines(book, out, start, &table, &mut log);
     }
     put_first_line(out, b"not a book\n")
 }

@@ -16,11 +16,11 @@ use Rattle.rules.specs.declared.Form.the-variants.{Any, Fixed, Group}
 use Rattle.rules.specs.declared.Members.{Members}
 use Rattle.rules.specs.declared.Members.the-variants.{Under, NoMembers}
 use Rattle.rules.specs.Verdict.{Answers}
-use Rattle.rules.specs.Dictionary.{Entry, find, isKnown, fitsForm, fitsWidth, widthOf, printed, membersOf, membersIn, hasMembers, rowsNumber}
+use Rattle.rules.specs.Dictionary.{Entry, find, isKnown, fitsForm, fitsWidth, widthOf, fixedWidth, membersOf, membersIn, hasMembers, rowsNumber}
 use Rattle.rules.proofs.Names.{Absent, consIf, both-hold, among, absent-differs}
 use Rattle.rules.proofs.Outcomes.{answers}
 use Rattle.rules.proofs.Tests.{and-true}
-use Rattle.dictionary.specs.Entries.{numberWhere, entryOf, withCode, saidAt, definitionAt, vendorAt}
+use Rattle.dictionary.specs.Entries.{numberWhere, entryOf, entryWithCode, saidAt, definitionAt, vendorOf}
 
 -- ---- the entry that a search finds
 
@@ -111,11 +111,11 @@ cond-outside f false x y = refl
 
 -- the entry that a code leads to, where it has this vendor
 abbrev ofVendor : List Entry → ℕ → ℕ → ℕ
-ofVendor es vendor code = cond (eqb vendor (vendorAt es (withCode es code))) (withCode es code) (length es)
+ofVendor es vendor code = cond (eqb vendor (vendorOf es (entryWithCode es code))) (entryWithCode es code) (length es)
 
 code-here : (e : Entry) (es : List Entry) (vendor code : ℕ) → eqb code (e .code) ≡ true
     → T (noneOf (λ f. eqb (e .code) (f .code)) es) → entryOf (e ∷ es) vendor code ≡ ofVendor (e ∷ es) vendor code
-unfolding numberWhere vendorAt
+unfolding numberWhere vendorOf
 code-here e es vendor code h t =
     let others = none-found (λ f. eqb (e .code) (f .code)) (λ f. eqb code (f .code) && eqb vendor (f .vendor))
     (λ f g. rw (eqb-true code (e .code) h, g)) es t in
@@ -123,9 +123,9 @@ code-here e es vendor code h t =
 
 code-on : (e : Entry) (es : List Entry) (vendor code : ℕ) → eqb code (e .code) ≡ false
     → entryOf es vendor code ≡ ofVendor es vendor code → entryOf (e ∷ es) vendor code ≡ ofVendor (e ∷ es) vendor code
-unfolding numberWhere vendorAt
+unfolding numberWhere vendorOf
 code-on e es vendor code h on =
-    rw h (ap suc on ∙ cond-outside suc (eqb vendor (vendorAt es (withCode es code))) (withCode es code) (length es))
+    rw h (ap suc on ∙ cond-outside suc (eqb vendor (vendorOf es (entryWithCode es code))) (entryWithCode es code) (length es))
 
 by-one-code : (e : Entry) (es : List Entry) (vendor code : ℕ) (b : Bool) → eqb code (e .code) ≡ b
     → T (noneOf (λ f. eqb (e .code) (f .code)) es) → entryOf es vendor code ≡ ofVendor es vendor code
@@ -135,22 +135,22 @@ by-one-code e es vendor code false h t on = code-on e es vendor code h on
 
 pub by-code : (es : List Entry) (vendor code : ℕ) → T (distinct es) → entryOf es vendor code ≡ ofVendor es vendor code
 unfolding numberWhere
-by-code [] vendor code t = cond-same (eqb vendor (vendorAt [] 0)) 0
+by-code [] vendor code t = cond-same (eqb vendor (vendorOf [] 0)) 0
 by-code (e ∷ es) vendor code t =
     let b = both-hold (noneOf (λ f. eqb (e .code) (f .code)) es) (distinct es) t in
     by-one-code e es vendor code (eqb code (e .code)) refl (b .0) (by-code es vendor code (b .1))
 
-pub own-vendor : (es : List Entry) (vendor code : ℕ) {n v : ℕ} → T (distinct es) → n ≡ withCode es code → v ≡ vendorAt es n
+pub own-vendor : (es : List Entry) (vendor code : ℕ) {n v : ℕ} → T (distinct es) → n ≡ entryWithCode es code → v ≡ vendorOf es n
     → v ≡ vendor → n ≡ entryOf es vendor code
 own-vendor es vendor code t p q r =
-    let own : vendor ≡ vendorAt es (withCode es code) = sym r ∙ q ∙ ap (vendorAt es) p in
-    p ∙ sym (by-code es vendor code t ∙ (rw (eq-eqb vendor (vendorAt es (withCode es code)) own)))
+    let own : vendor ≡ vendorOf es (entryWithCode es code) = sym r ∙ q ∙ ap (vendorOf es) p in
+    p ∙ sym (by-code es vendor code t ∙ (rw (eq-eqb vendor (vendorOf es (entryWithCode es code)) own)))
 
-pub others-vendor : (es : List Entry) (vendor code : ℕ) {n v : ℕ} → T (distinct es) → n ≡ withCode es code → v ≡ vendorAt es n
+pub others-vendor : (es : List Entry) (vendor code : ℕ) {n v : ℕ} → T (distinct es) → n ≡ entryWithCode es code → v ≡ vendorOf es n
     → (v ≡ vendor → ⊥) → length es ≡ entryOf es vendor code
 others-vendor es vendor code t p q r =
-    let apart : vendor ≡ vendorAt es (withCode es code) → ⊥ = λ own. r (q ∙ ap (vendorAt es) p ∙ sym own) in
-    sym (by-code es vendor code t ∙ (rw (ne-eqb vendor (vendorAt es (withCode es code)) apart)))
+    let apart : vendor ≡ vendorOf es (entryWithCode es code) → ⊥ = λ own. r (q ∙ ap (vendorOf es) p ∙ sym own) in
+    sym (by-code es vendor code t ∙ (rw (ne-eqb vendor (vendorOf es (entryWithCode es code)) apart)))
 
 -- ---- the members of a group by its code
 
@@ -162,14 +162,14 @@ definition-behind (e ∷ es) = definition-behind es
 -- the rows of the group that a code leads to, where it has this vendor
 abbrev pub rowsBy : List Entry → ℕ → ℕ → Members
 rowsBy es vendor code =
-    cond (eqb vendor (vendorAt es (withCode es code))) (membersOf (definitionAt es (withCode es code))) NoMembers
+    cond (eqb vendor (vendorOf es (entryWithCode es code))) (membersOf (definitionAt es (entryWithCode es code))) NoMembers
 
 members-by-code : (es : List Entry) (vendor code : ℕ) → T (distinct es) → rowsBy es vendor code ≡ membersOf (find es vendor code)
 members-by-code es vendor code t =
-    let own = eqb vendor (vendorAt es (withCode es code)) in
+    let own = eqb vendor (vendorOf es (entryWithCode es code)) in
     let behind = definition-behind es in
-    sym (cond-outside (λ (n : ℕ). membersOf (definitionAt es n)) own (withCode es code) (length es)
-    ∙ ap (λ (d : Definition). cond own (membersOf (definitionAt es (withCode es code))) (membersOf d)) behind)
+    sym (cond-outside (λ (n : ℕ). membersOf (definitionAt es n)) own (entryWithCode es code) (length es)
+    ∙ ap (λ (d : Definition). cond own (membersOf (definitionAt es (entryWithCode es code))) (membersOf d)) behind)
     ∙ ap (λ (n : ℕ). membersOf (definitionAt es n)) (sym (by-code es vendor code t))
     ∙ ap membersOf (found-is es vendor code)
 
@@ -246,7 +246,7 @@ codes-lacking (e ∷ es) code others a =
     let r = codes-lacking es code (e .code ∷ others) a in
     (rw (ne-eqb code (e .code) (r .1 .1)) (r .0), r .1 .0)
 
-pub absent-code : (es : List Entry) (code : ℕ) → Absent (codesWhere (λ e. true) es []) code → withCode es code ≡ length es
+pub absent-code : (es : List Entry) (code : ℕ) → Absent (codesWhere (λ e. true) es []) code → entryWithCode es code ≡ length es
 absent-code es code a =
     none-found (λ e. eqb code (e .code)) (λ e. eqb code (e .code)) (λ e f. f) es (codes-lacking es code [] a .0)
 
@@ -259,8 +259,8 @@ pub other-definition : (P : Definition → Type 0) (test : Entry → Bool) → P
 unfolding definitionAt
 other-definition P test = other-number Unknown (λ e. Known (e .m) (e .form)) P test
 
-pub other-vendor : (es : List Entry) (n : ℕ) → Absent (numbersFrom (λ e. true) 0 es []) n → 0 ≡ vendorAt es n
-unfolding vendorAt
+pub other-vendor : (es : List Entry) (n : ℕ) → Absent (numbersFrom (λ e. true) 0 es []) n → 0 ≡ vendorOf es n
+unfolding vendorOf
 other-vendor = other-number 0 (λ e. e .vendor) (λ v. 0 ≡ v) (λ e. true) refl (λ e h. let z : _≡_ {A = ℕ} 0 1 = cc in absurd (omega arith))
 
 -- a group as an entry
@@ -283,7 +283,7 @@ no-members es vendor code a =
 -- ---- widths
 
 -- a width that is not 0 is fixed
-pub fixed-fits : (d : Definition) (length : ℕ) → (printed d .width ≡ 0 → ⊥) → fitsWidth d length ≡ eqb length (printed d .width)
+pub fixed-fits : (d : Definition) (length : ℕ) → (fixedWidth d ≡ 0 → ⊥) → fitsWidth d length ≡ eqb length (fixedWidth d)
 fixed-fits (Known m Any) length h = absurd (h refl)
 fixed-fits (Known m (Fixed w)) length h = refl
 fixed-fits (Known m (Group g)) length h = absurd (h refl)
@@ -301,7 +301,7 @@ form-fits (Fixed w) length t h = absurd (rw h at t)
 form-fits (Group g) length t h = refl
 
 -- where no entry has it, a width of 0 says that any length passes
-pub any-fits : (es : List Entry) → T (noneOf (λ e. isEmpty (e .form)) es) → (n length : ℕ) → printed (definitionAt es n) .width ≡ 0
+pub any-fits : (es : List Entry) → T (noneOf (λ e. isEmpty (e .form)) es) → (n length : ℕ) → fixedWidth (definitionAt es n) ≡ 0
     → fitsWidth (definitionAt es n) length ≡ true
 unfolding definitionAt
 any-fits [] t n length h = refl

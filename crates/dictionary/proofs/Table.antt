@@ -1,5 +1,5 @@
--- Laws of the table of plain codes: the rule of the right one, by a test that is computed over all of its places; and what
--- is found in the dictionary that a table stands for.
+-- Laws of the table of plain codes: the rule of the right one, by a test that is computed over all of its places; and
+-- what is found in the dictionary that a table stands for.
 use mathlib.Core.Path.{_≡_, refl, sym, ap, _∙_}
 use mathlib.Core.List.{List, [], _∷_, _++_}
 use mathlib.Core.Bool.{Bool, true, false, cond, _&&_}
@@ -9,7 +9,7 @@ use native.Mathlib.Nat.{add-zero, zero-add, eq-or-lt-of-le}
 use native.Mathlib.Omega.{arith}
 use lib.Dec.{T, eqb, leb, eqb→eq}
 use lib.ListN.{length, getD}
-use borrow.Author.Tests.{leb-true, leb-false, le-leb, lt-leb, eqb-true, eqb-false, eq-eqb, ne-eqb}
+use borrow.Author.Tests.{leb-true, leb-false, le-leb, eqb-true, eqb-false, ne-eqb}
 use Rattle.rules.specs.declared.Definition.{Definition}
 use Rattle.rules.specs.declared.Definition.the-variants.{Known, Unknown}
 use Rattle.rules.specs.declared.Form.{Form}
@@ -44,7 +44,7 @@ isBeyond e = leb plainCodes (e .code) && eqb 0 (e .vendor)
 
 -- the test of a whole table
 abbrev pub fits : List ℕ → Bool
-fits codes = eqb (length codes) plainCodes && (every isFound 0 codes && noneOf isBeyond dictionary)
+fits table = eqb (length table) plainCodes && (every isFound 0 table && noneOf isBeyond dictionary)
 
 not-wanted : (code : ℕ) → plainCodes ≤ code → (e : Entry) (b : Bool) → eqb code (e .code) ≡ b → isBeyond e ≡ false
     → (b && eqb 0 (e .vendor)) ≡ false
@@ -59,34 +59,35 @@ beyond-none t code far =
     none-found isBeyond (λ e. eqb code (e .code) && eqb 0 (e .vendor))
     (λ e f. not-wanted code far e (eqb code (e .code)) refl f) dictionary t
 
-at-place : (codes : List ℕ) (code : ℕ) (far : Bool) → leb plainCodes code ≡ far
-    → (code < plainCodes → getD codes code 0 ≡ entryOf dictionary 0 code)
-    → (plainCodes ≤ code → entryOf dictionary 0 code ≡ noEntry) → plainEntry codes code ≡ entryOf dictionary 0 code
+at-place : (table : List ℕ) (code : ℕ) (far : Bool) → leb plainCodes code ≡ far
+    → (code < plainCodes → getD table code 0 ≡ entryOf dictionary 0 code)
+    → (plainCodes ≤ code → entryOf dictionary 0 code ≡ noEntry) → plainEntry table code ≡ entryOf dictionary 0 code
 unfolding plainEntry
-at-place codes code true h within beyond = rw h (sym (beyond (leb-true plainCodes code h)))
-at-place codes code false h within beyond = rw h (within (leb-false plainCodes code h))
+at-place table code true h within beyond = rw h (sym (beyond (leb-true plainCodes code h)))
+at-place table code false h within beyond = rw h (within (leb-false plainCodes code h))
 
 -- the test of the whole table turned into the rule at each place
-pub table-rule : (codes : List ℕ) → T (fits codes) → IsTable codes
-table-rule codes t =
-    let a = both-hold (eqb (length codes) plainCodes) (every isFound 0 codes && noneOf isBeyond dictionary) t in
-    let b = both-hold (every isFound 0 codes) (noneOf isBeyond dictionary) (a .1) in
-    let size = eqb→eq (length codes) plainCodes (a .0) in
+pub table-rule : (table : List ℕ) → T (fits table) → IsTable table
+table-rule table t =
+    let a = both-hold (eqb (length table) plainCodes) (every isFound 0 table && noneOf isBeyond dictionary) t in
+    let b = both-hold (every isFound 0 table) (noneOf isBeyond dictionary) (a .1) in
+    let size = eqb→eq (length table) plainCodes (a .0) in
     record {
-      finds = λ code. at-place codes code (leb plainCodes code) refl
-          (λ h. eqb→eq _ _ (rw (zero-add code) at (every-from isFound codes 0 (b .0) code (omega arith))))
+      size = size;
+      finds = λ code. at-place table code (leb plainCodes code) refl
+          (λ h. eqb→eq _ _ (rw (zero-add code) at (every-from isFound table 0 (b .0) code (omega arith))))
           (beyond-none (b .1) code);
     }
 
-found-at : (codes : List ℕ) → IsTable codes → (vendor code : ℕ) (plain : Bool) → eqb vendor 0 ≡ plain
-    → entryBy codes vendor code ≡ entryOf dictionary vendor code
+found-at : (table : List ℕ) → IsTable table → (vendor code : ℕ) (plain : Bool) → eqb vendor 0 ≡ plain
+    → entryBy table vendor code ≡ entryOf dictionary vendor code
 unfolding entryBy
-found-at codes is vendor code true h = rw (h, eqb-true vendor 0 h) (is .finds code)
-found-at codes is vendor code false h = rw h
+found-at table is vendor code true h = rw (h, eqb-true vendor 0 h) (is .finds code)
+found-at table is vendor code false h = rw h
 
 -- by the right table, every name is found as by a search
-pub table-finds : (codes : List ℕ) → IsTable codes → (vendor code : ℕ) → entryBy codes vendor code ≡ entryOf dictionary vendor code
-table-finds codes is vendor code = found-at codes is vendor code (eqb vendor 0) refl
+table-finds : (table : List ℕ) → IsTable table → (vendor code : ℕ) → entryBy table vendor code ≡ entryOf dictionary vendor code
+table-finds table is vendor code = found-at table is vendor code (eqb vendor 0) refl
 
 -- ---- the dictionary that a table stands for
 
@@ -97,12 +98,6 @@ firstKnown Unknown d = d
 first-alone : (d : Definition) → firstKnown d Unknown ≡ d
 first-alone (Known m form) = refl
 first-alone Unknown = refl
-
--- one entry before others
-find-one : (e : Entry) (es : List Entry) (vendor code : ℕ) → find (e ∷ es) vendor code
-    ≡ cond (eqb vendor (e .vendor) && eqb code (e .code)) (Known (e .m) (e .form)) (find es vendor code)
-unfolding find
-find-one e es vendor code = refl
 
 find-none : (vendor code : ℕ) → find [] vendor code ≡ Unknown
 unfolding find
@@ -128,35 +123,35 @@ find-defined (Known m form) k es vendor code = refl
 find-defined Unknown k es vendor code = cond-same (eqb vendor 0 && eqb code k) (find es vendor code)
 
 -- a name that is none of the n codes from one on
-plain-none : (codes : List ℕ) (n from vendor code : ℕ) → ((k : ℕ) → from ≤ k → k < from + n → (eqb vendor 0 && eqb code k) ≡ false)
-    → find (plainFrom codes n from) vendor code ≡ Unknown
+plain-none : (table : List ℕ) (n from vendor code : ℕ) → ((k : ℕ) → from ≤ k → k < from + n → (eqb vendor 0 && eqb code k) ≡ false)
+    → find (plainFrom table n from) vendor code ≡ Unknown
 unfolding plainFrom
-plain-none codes zero from vendor code apart = find-none vendor code
-plain-none codes (suc n) from vendor code apart =
-    find-defined (definitionAt dictionary (getD codes from 0)) from (plainFrom codes n (suc from)) vendor code
-    ∙ (rw (apart from (omega arith) (omega arith)) (plain-none codes n (suc from) vendor code (λ k h g. apart k (omega arith) (omega arith))))
+plain-none table zero from vendor code apart = find-none vendor code
+plain-none table (suc n) from vendor code apart =
+    find-defined (definitionAt dictionary (getD table from 0)) from (plainFrom table n (suc from)) vendor code
+    ∙ (rw (apart from (omega arith) (omega arith)) (plain-none table n (suc from) vendor code (λ k h g. apart k (omega arith) (omega arith))))
 
 -- one of them
-plain-step : (codes : List ℕ) (n from code : ℕ) (here : Bool) → eqb code from ≡ here → from ≤ code
-    → (suc from ≤ code → find (plainFrom codes n (suc from)) 0 code ≡ definitionAt dictionary (getD codes code 0))
-    → find (plainFrom codes (suc n) from) 0 code ≡ definitionAt dictionary (getD codes code 0)
+plain-step : (table : List ℕ) (n from code : ℕ) (here : Bool) → eqb code from ≡ here → from ≤ code
+    → (suc from ≤ code → find (plainFrom table n (suc from)) 0 code ≡ definitionAt dictionary (getD table code 0))
+    → find (plainFrom table (suc n) from) 0 code ≡ definitionAt dictionary (getD table code 0)
 unfolding plainFrom
-plain-step codes n from code true h l on =
+plain-step table n from code true h l on =
     let same = eqb-true code from h in
-    let d = definitionAt dictionary (getD codes from 0) in
-    let rest = plain-none codes n (suc from) 0 code (λ k g f. ne-eqb code k (λ e. absurd (omega arith))) in
-    find-defined d from (plainFrom codes n (suc from)) 0 code
-    ∙ (rw (h, rest) (first-alone d ∙ ap (λ (k : ℕ). definitionAt dictionary (getD codes k 0)) (sym same)))
-plain-step codes n from code false h l on =
+    let d = definitionAt dictionary (getD table from 0) in
+    let rest = plain-none table n (suc from) 0 code (λ k g f. ne-eqb code k (λ e. absurd (omega arith))) in
+    find-defined d from (plainFrom table n (suc from)) 0 code
+    ∙ (rw (h, rest) (first-alone d ∙ ap (λ (k : ℕ). definitionAt dictionary (getD table k 0)) (sym same)))
+plain-step table n from code false h l on =
     let differs = eqb-false code from h in
-    find-defined (definitionAt dictionary (getD codes from 0)) from (plainFrom codes n (suc from)) 0 code
+    find-defined (definitionAt dictionary (getD table from 0)) from (plainFrom table n (suc from)) 0 code
     ∙ (rw h (on (⊎-elim (λ g. absurd (differs (sym g))) (λ g. g) (eq-or-lt-of-le l))))
 
-plain-one : (codes : List ℕ) (n from code : ℕ) → from ≤ code → code < from + n
-    → find (plainFrom codes n from) 0 code ≡ definitionAt dictionary (getD codes code 0)
-plain-one codes zero from code l h = absurd (omega arith)
-plain-one codes (suc n) from code l h =
-    plain-step codes n from code (eqb code from) refl l (λ g. plain-one codes n (suc from) code g (omega arith))
+plain-one : (table : List ℕ) (n from code : ℕ) → from ≤ code → code < from + n
+    → find (plainFrom table n from) 0 code ≡ definitionAt dictionary (getD table code 0)
+plain-one table zero from code l h = absurd (omega arith)
+plain-one table (suc n) from code l h =
+    plain-step table n from code (eqb code from) refl l (λ g. plain-one table n (suc from) code g (omega arith))
 
 -- the entries with a vendor
 vendor-step : (e : Entry) (es : List Entry) (vendor code : ℕ) (dropped plain : Bool) → eqb (e .vendor) 0 ≡ dropped
@@ -185,36 +180,36 @@ find-with-vendor (e ∷ es) vendor code plain p =
     vendor-step e es vendor code (eqb (e .vendor) 0) plain refl p (find-with-vendor es vendor code plain p)
 
 -- a code without vendor
-found-plain : (codes : List ℕ) (code : ℕ) (far : Bool) → leb plainCodes code ≡ far
-    → find (plainFrom codes plainCodes 0) 0 code ≡ definitionAt dictionary (plainEntry codes code)
+found-plain : (table : List ℕ) (code : ℕ) (far : Bool) → leb plainCodes code ≡ far
+    → find (plainFrom table plainCodes 0) 0 code ≡ definitionAt dictionary (plainEntry table code)
 unfolding plainEntry
-found-plain codes code true h =
+found-plain table code true h =
     let l = leb-true plainCodes code h in
-    plain-none codes plainCodes 0 0 code (λ k f g. ne-eqb code k (λ e. absurd (omega arith)))
+    plain-none table plainCodes 0 0 code (λ k f g. ne-eqb code k (λ e. absurd (omega arith)))
     ∙ (rw h (sym (definition-behind dictionary)))
-found-plain codes code false h =
+found-plain table code false h =
     let l = leb-false plainCodes code h in
-    plain-one codes plainCodes 0 code (omega arith) (omega arith) ∙ (rw h)
+    plain-one table plainCodes 0 code (omega arith) (omega arith) ∙ (rw h)
 
-found-by : (codes : List ℕ) (vendor code : ℕ) (plain : Bool) → eqb vendor 0 ≡ plain
-    → find (dictionaryBy codes) vendor code ≡ definitionAt dictionary (entryBy codes vendor code)
+found-by : (table : List ℕ) (vendor code : ℕ) (plain : Bool) → eqb vendor 0 ≡ plain
+    → find (dictionaryBy table) vendor code ≡ definitionAt dictionary (entryBy table vendor code)
 unfolding entryBy dictionaryBy
-found-by codes vendor code true p =
+found-by table vendor code true p =
     let zero-vendor = eqb-true vendor 0 p in
-    find-append (plainFrom codes plainCodes 0) (withVendor dictionary) vendor code
-    ∙ ap (firstKnown (find (plainFrom codes plainCodes 0) vendor code)) (find-with-vendor dictionary vendor code true p)
-    ∙ first-alone (find (plainFrom codes plainCodes 0) vendor code)
-    ∙ (rw (p, zero-vendor) (found-plain codes code (leb plainCodes code) refl))
-found-by codes vendor code false p =
-    let none = plain-none codes plainCodes 0 vendor code (λ k f g. ap (λ (b : Bool). b && eqb code k) p) in
-    find-append (plainFrom codes plainCodes 0) (withVendor dictionary) vendor code
+    find-append (plainFrom table plainCodes 0) (withVendor dictionary) vendor code
+    ∙ ap (firstKnown (find (plainFrom table plainCodes 0) vendor code)) (find-with-vendor dictionary vendor code true p)
+    ∙ first-alone (find (plainFrom table plainCodes 0) vendor code)
+    ∙ (rw (p, zero-vendor) (found-plain table code (leb plainCodes code) refl))
+found-by table vendor code false p =
+    let none = plain-none table plainCodes 0 vendor code (λ k f g. ap (λ (b : Bool). b && eqb code k) p) in
+    find-append (plainFrom table plainCodes 0) (withVendor dictionary) vendor code
     ∙ (rw (none, find-with-vendor dictionary vendor code false p, p) (sym (found-is dictionary vendor code)))
 
 -- what is found in it is what the entry says to which the table leads
-pub by-table : (codes : List ℕ) (vendor code : ℕ) → find (dictionaryBy codes) vendor code ≡ definitionAt dictionary (entryBy codes vendor code)
-by-table codes vendor code = found-by codes vendor code (eqb vendor 0) refl
+pub by-table : (table : List ℕ) (vendor code : ℕ) → find (dictionaryBy table) vendor code ≡ definitionAt dictionary (entryBy table vendor code)
+by-table table vendor code = found-by table vendor code (eqb vendor 0) refl
 
 -- the dictionary of the right table says what document 01's says
-pub table-same : (codes : List ℕ) → IsTable codes → (vendor code : ℕ) → find (dictionaryBy codes) vendor code ≡ find dictionary vendor code
-table-same codes is vendor code =
-    by-table codes vendor code ∙ ap (definitionAt dictionary) (table-finds codes is vendor code) ∙ found-is dictionary vendor code
+pub table-same : (table : List ℕ) → IsTable table → (vendor code : ℕ) → find (dictionaryBy table) vendor code ≡ find dictionary vendor code
+table-same table is vendor code =
+    by-table table vendor code ∙ ap (definitionAt dictionary) (table-finds table is vendor code) ∙ found-is dictionary vendor code

@@ -1,5 +1,5 @@
--- The entries of a dictionary by their numbers (request [6]: what a table of numbers leads to). The number of an entry is
--- its position in the dictionary, from 0.
+-- The entries of a dictionary by their numbers (request [6]: what a table of numbers leads to). The number of an entry
+-- is its position in the dictionary, from 0.
 use Prim.Native.Nat.{ℕ, zero, suc}
 use mathlib.Core.List.{List, [], _∷_}
 use mathlib.Core.Bool.{Bool, cond, _&&_}
@@ -13,13 +13,14 @@ unfoldable pub numberWhere : (Entry → Bool) → List Entry → ℕ
 numberWhere test [] = 0
 numberWhere test (e ∷ es) = cond (test e) 0 (suc (numberWhere test es))
 
--- the search of a dictionary: the number of the entry of a vendor and a code
+-- the search of a dictionary: the number of the entry of a vendor and a code; it leads to what `find` says (`found-is`
+-- in proofs/Entries)
 abbrev pub entryOf : List Entry → ℕ → ℕ → ℕ
 entryOf dict vendor code = numberWhere (λ e. eqb code (e .code) && eqb vendor (e .vendor)) dict
 
 -- that of the first entry with a code, whatever its vendor
-abbrev pub withCode : List Entry → ℕ → ℕ
-withCode dict code = numberWhere (λ e. eqb code (e .code)) dict
+abbrev pub entryWithCode : List Entry → ℕ → ℕ
+entryWithCode dict code = numberWhere (λ e. eqb code (e .code)) dict
 
 -- what is said of the entry with a number, or else of none
 abbrev pub saidAt : {A : Type 0} → A → (Entry → A) → List Entry → ℕ → A
@@ -32,5 +33,5 @@ unfoldable pub definitionAt : List Entry → ℕ → Definition
 definitionAt = saidAt Unknown (λ e. Known (e .m) (e .form))
 
 -- the vendor of an entry, 0 where there is none
-unfoldable pub vendorAt : List Entry → ℕ → ℕ
-vendorAt = saidAt 0 (λ e. e .vendor)
+unfoldable pub vendorOf : List Entry → ℕ → ℕ
+vendorOf = saidAt 0 (λ e. e .vendor)

@@ -1,3 +1,3 @@
--- The dictionary's entries by their numbers, and what the functions of this crate promise.
+-- The dictionary's entries by their numbers, and the table of plain codes.
 pub mod Entries
 pub mod Table

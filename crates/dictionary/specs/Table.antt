@@ -1,5 +1,5 @@
--- Request [6]: a table of plain codes, AVP codes without vendor from 0 to 650, which leads each to the number of its entry.
--- What a table says is defined for whatever numbers it holds; `IsTable` is the rule of the right one.
+-- Request [6]: a table of plain codes, AVP codes without vendor from 0 to 650, which leads each to the number of its
+-- entry. What a table says is defined for whatever numbers it holds; `IsTable` is the rule of the right one.
 use mathlib.Core.Path.{_≡_}
 use Prim.Native.Nat.{ℕ, zero, suc}
 use mathlib.Core.List.{List, [], _∷_, _++_}
@@ -21,15 +21,16 @@ noEntry = length dictionary
 
 -- what a table leads a code without vendor to
 unfoldable pub plainEntry : List ℕ → ℕ → ℕ
-plainEntry codes code = cond (leb plainCodes code) noEntry (getD codes code 0)
+plainEntry table code = cond (leb plainCodes code) noEntry (getD table code 0)
 
--- the rule: for every code the table finds what a search of the dictionary finds
-pub record IsTable (codes : List ℕ) : Type 0 where
-  pub finds : (code : ℕ) → plainEntry codes code ≡ entryOf dictionary 0 code
+-- the rule: the table has these places, and for every code it finds what a search of the dictionary finds
+pub record IsTable (table : List ℕ) : Type 0 where
+  pub size : length table ≡ plainCodes
+  pub finds : (code : ℕ) → plainEntry table code ≡ entryOf dictionary 0 code
 
 -- the entry of a name by a table: a name without vendor through the table, others by the search
 unfoldable pub entryBy : List ℕ → ℕ → ℕ → ℕ
-entryBy codes vendor code = cond (eqb vendor 0) (plainEntry codes code) (entryOf dictionary vendor code)
+entryBy table vendor code = cond (eqb vendor 0) (plainEntry table code) (entryOf dictionary vendor code)
 
 -- ---- the dictionary that a table stands for; the right one stands for document 01's
 
@@ -40,8 +41,8 @@ consDefined code Unknown es = es
 
 -- the next n codes from one on, each as the entry says to which the table leads
 unfoldable pub plainFrom : List ℕ → ℕ → ℕ → List Entry
-plainFrom codes zero code = []
-plainFrom codes (suc n) code = consDefined code (definitionAt dictionary (getD codes code 0)) (plainFrom codes n (suc code))
+plainFrom table zero code = []
+plainFrom table (suc n) code = consDefined code (definitionAt dictionary (getD table code 0)) (plainFrom table n (suc code))
 
 -- the entries that have a vendor
 abbrev pub withVendor : List Entry → List Entry
@@ -50,4 +51,4 @@ withVendor (e ∷ es) = cond (eqb (e .vendor) 0) (withVendor es) (e ∷ withVend
 
 -- plain codes by the table, and document 01's entries with a vendor
 unfoldable pub dictionaryBy : List ℕ → List Entry
-dictionaryBy codes = plainFrom codes plainCodes 0 ++ withVendor dictionary
+dictionaryBy table = plainFrom table plainCodes 0 ++ withVendor dictionary

@@ -1,5 +1,5 @@
-// The AVP kinds of document 01's dictionary, in its order: Vendor-Id, AVP code and, where it is fixed, the width of the
-// data, as constants of each kind; and the number of its entry, which is its position in the dictionary. The dictionary,
+// The AVP kinds of document 01's dictionary, in the order of its entries: Vendor-Id, AVP code and, where it is fixed,
+// the width of the data, as constants of each kind; and the number of its entry, which is its position. The dictionary,
 // the rows and the exchange rules name an AVP by these alone.
 use rules::limits::NO_VENDOR;
 use rules::limits::VENDOR_3GPP;

@@ -1,12 +1,12 @@
-// 01, Dictionary: the number of a name's entry, by a search or, for plain codes, by the constant table of request [6]; and
-// what an entry says. Each arm of a `match` stands for one kind, by its constants.
+// 01, Dictionary: the number of a name's entry, by a search or, for plain codes, through the constant table of request
+// [6]; and what an entry says. Each arm of a `match` stands for one kind, by its constants.
 ghost use mathlib.Core.Path.{_≡_};
 ghost use mathlib.Core.Bool.{cond};
 ghost use lib.Dec.{eqb};
 ghost use Rattle.rules.specs.Verdict.{Answers};
-ghost use Rattle.rules.specs.Dictionary.{find, dictionary, requiresM, isKnown, membersOf, isGroup, rowsNumber, printed};
+ghost use Rattle.rules.specs.Dictionary.{find, dictionary, requiresM, isKnown, membersOf, isGroup, fixedWidth, rowsNumber};
 ghost use Rattle.rules.specs.Meaning.{isReadGroup};
-ghost use Rattle.dictionary.specs.Entries.{entryOf, withCode, vendorAt, definitionAt};
+ghost use Rattle.dictionary.specs.Entries.{entryOf, entryWithCode, vendorOf, definitionAt};
 ghost use Rattle.dictionary.specs.Table.{plainEntry, entryBy, IsTable};
 use rules::Grammar;
 use rules::Members;
@@ -17,7 +17,7 @@ pub mod plain;
 
 // The entry that has a code; no two have the same one.
 fn entry_with_code(code: u32) -> u8
-    ensures { λ r. ⌜ r ≡ withCode dictionary code ⌝ }
+    ensures { λ r. ⌜ r ≡ entryWithCode dictionary code ⌝ }
 {
     match code {
         kinds::AuthApplicationId::CODE => kinds::AuthApplicationId::ENTRY,
@@ -74,8 +74,8 @@ fn entry_with_code(code: u32) -> u8
 }
 
 // The Vendor-Id of an entry, none where the number is no entry's.
-pub fn vendor_of(entry: u8) -> u32
-    ensures { λ r. ⌜ r ≡ vendorAt dictionary entry ⌝ }
+fn vendor_of(entry: u8) -> u32
+    ensures { λ r. ⌜ r ≡ vendorOf dictionary entry ⌝ }
 {
     match entry {
         kinds::AuthApplicationId::ENTRY => kinds::AuthApplicationId::VENDOR,
@@ -132,7 +132,7 @@ pub fn vendor_of(entry: u8) -> u32
 }
 
 // The search of the dictionary: the entry of a name.
-pub fn entry_of(vendor: u32, code: u32) -> u8
+fn entry_of(vendor: u32, code: u32) -> u8
     ensures { λ r. ⌜ r ≡ entryOf dictionary vendor code ⌝ }
 {
     let entry = entry_with_code(code);
@@ -143,30 +143,31 @@ pub fn entry_of(vendor: u32, code: u32) -> u8
 }
 
 // The table of plain codes. A constant array is built anew where it is named, so the table is made once and lent.
-pub fn plain_codes() -> [u8; plain::PLAIN_CODES]
+pub fn plain_table() -> [u8; plain::PLAIN_CODES]
     ensures { λ r. ⌜ IsTable r ⌝ }
 {
     plain::TABLE
 }
 
 // What a table leads a code without vendor to.
-fn plain_entry(codes: &[u8; plain::PLAIN_CODES], code: u32) -> u8
-    ensures { λ r. ⌜ r ≡ plainEntry (now (codes .entry)) code ⌝ }
+fn plain_entry(table: &[u8; plain::PLAIN_CODES], code: u32) -> u8
+    ensures { λ r. ⌜ r ≡ plainEntry (now (table .entry)) code ⌝ }
 {
     let place = code as usize;
     if plain::PLAIN_CODES <= place {
         return kinds::NO_ENTRY;
     }
-    codes[place]
+    table[place]
 }
 
-// The entry of a name by a table of plain codes: a name without vendor through the table, others by the search. Where it
-// is the table above, the entry is that of the search.
-pub fn entry_by(codes: &[u8; plain::PLAIN_CODES], vendor: u32, code: u32) -> u8
-    ensures { λ r. ⌜ r ≡ entryBy (now (codes .entry)) vendor code ⌝ }
+// The entry of a name by a table of plain codes: a name without vendor through the table, others by the search. By the
+// table above it is the entry that the search finds. The search for a name of 3GPP is handed the vendor as a constant,
+// so that the compiled one has no test of it.
+pub fn entry_by(table: &[u8; plain::PLAIN_CODES], vendor: u32, code: u32) -> u8
+    ensures { λ r. ⌜ r ≡ entryBy (now (table .entry)) vendor code ⌝ }
 {
     match vendor {
-        limits::NO_VENDOR => plain_entry(codes, code),
+        limits::NO_VENDOR => plain_entry(table, code),
         limits::VENDOR_3GPP => entry_of(limits::VENDOR_3GPP, code),
         _ => kinds::NO_ENTRY,
     }
@@ -201,7 +202,7 @@ pub fn requires_m(entry: u8) -> bool
 
 // The width of the data where it is fixed, 0 where any length passes.
 pub fn width(entry: u8) -> u32
-    ensures { λ r. ⌜ r ≡ printed (definitionAt dictionary entry) .width ⌝ }
+    ensures { λ r. ⌜ r ≡ fixedWidth (definitionAt dictionary entry) ⌝ }
 {
     match entry {
         kinds::AuthApplicationId::ENTRY => kinds::AuthApplicationId::WIDTH,

@@ -1,5 +1,5 @@
-// Request [6]: the constant table of the plain codes, AVP codes without vendor from 0 to 650. At each code's place stands
-// the number of its entry in the dictionary, or that of no entry.
+// Request [6]: the constant table of the plain codes, AVP codes without vendor from 0 to 650. At each code's place
+// stands the number of its entry in the dictionary, or that of no entry.
 use crate::kinds;
 
 pub const PLAIN_CODES: usize = 651;

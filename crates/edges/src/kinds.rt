@@ -1,5 +1,5 @@
-// 01, Dictionary: each code of a vendor up to 4,300 through the table of plain codes and the search. A line for each that
-// has an entry, in the order of the codes: vendor and code, whether M must be set, and the form of the data.
+// 01, Dictionary: each code of a vendor up to 4,300 through the table of plain codes or the search. A line for each code
+// that has an entry, in their order: vendor and code, whether M must be set, and the form of the data.
 use crate::print;
 use dictionary::plain;
 
@@ -16,8 +16,8 @@ fn form(entry: u8) {
     print::spaced(width);
 }
 
-fn kind(codes: &[u8; plain::PLAIN_CODES], vendor: u32, code: u32) {
-    let entry = dictionary::entry_by(codes, vendor, code);
+fn kind(table: &[u8; plain::PLAIN_CODES], vendor: u32, code: u32) {
+    let entry = dictionary::entry_by(table, vendor, code);
     if !dictionary::is_known(entry) {
         return;
     }
@@ -29,10 +29,10 @@ fn kind(codes: &[u8; plain::PLAIN_CODES], vendor: u32, code: u32) {
 }
 
 pub(crate) fn kinds_of(vendor: u32) {
-    let codes = dictionary::plain_codes();
+    let table = dictionary::plain_table();
     let mut code: u32 = 0;
     while code < 4301 {
-        kind(&codes, vendor, code);
+        kind(&table, vendor, code);
         code += 1;
     }
 }

@@ -1,6 +1,6 @@
 // Runs the commands of document 01, section "Commands at the edges", that are not marked (p), and further edges of its
-// clauses, through the reader, and every code through the dictionary. A line for each case: its label,
-// number, place, Vendor-Id and code. The file `stdout` has what document 01 says must come out.
+// clauses, through the reader, and the codes to 4,300 of three vendors through the dictionary. A line for each case:
+// its label, number, place, Vendor-Id and code. The file `stdout` has what document 01 says must come out.
 mod case;
 mod exchange;
 mod header;

@@ -10,11 +10,11 @@ use Rattle.rules.specs.declared.Outcome.{Outcome}
 use Rattle.rules.specs.declared.Outcome.the-variants.{Pass, Refused}
 use Rattle.rules.specs.declared.Record.{Record}
 use Rattle.rules.specs.declared.Reading.{Reading}
-use Rattle.rules.specs.Verdict.{verdict, orElse, verdictOf}
+use Rattle.rules.specs.Verdict.{verdict, verdictOf}
 use Rattle.rules.specs.Header.{headerOutcome}
 use Rattle.rules.specs.Walk.{Walked, whole, stopped, avpsOf}
 use Rattle.rules.specs.Dictionary.{Entry, find, dictionary}
-use Rattle.rules.specs.Command.{ownList, walkOf, listsOutcome, walkedOutcome, commandOutcome, commandVerdict}
+use Rattle.rules.specs.Command.{ownList, walkBy, walkOf, listsOutcome, walkedOutcome, outcomeAfter, commandOutcome, commandVerdict}
 use Rattle.rules.specs.Record.{recordOf, emptyRecord, reading}
 use Rattle.rules.proofs.Outcomes.{refused-first, pass-first}
 use Rattle.rules.proofs.Header.{headed}
@@ -24,7 +24,7 @@ use Rattle.dictionary.proofs.Table.{table-same}
 use Rattle.log.specs.Log.{avpsIn, putAvps}
 use Rattle.walk.specs.declared.Walk.{Walk}
 use Rattle.walk.specs.declared.Walk.the-variants.{Whole, Stopped}
-use Rattle.walk.specs.Promise.{answerOf, walkBy, commandWalk, CommandWalked}
+use Rattle.walk.specs.Promise.{answerOf, commandWalk, CommandWalked}
 use Rattle.walk.proofs.Same.{walk-same}
 use Rattle.reader.specs.declared.Judgement.{Judgement}
 use Rattle.reader.specs.Promise.{outcomeBy, metBy, logAfterBy, IsJudged}
@@ -114,7 +114,7 @@ module _ (d e : List Entry) (same : (vendor code : ℕ) → find d vendor code �
 
   outcome-same : outcomeBy d s ≡ outcomeBy e s
   unfolding outcomeBy
-  outcome-same = ap (λ (x : Walked). orElse (headerOutcome s) (walkedOutcome s x)) walks-same
+  outcome-same = ap (outcomeAfter s) walks-same
 
 pub judged-same : (d e : List Entry) → ((vendor code : ℕ) → find d vendor code ≡ find e vendor code) → (s before : List ℕ)
     {r : Judgement} {after : List ℕ} → IsJudged d s before r after → IsJudged e s before r after
@@ -165,6 +165,6 @@ module _ (s : List ℕ) where
   read-refused e r q = rw (q, verdict-refused e, e)
 
 -- by the right table of plain codes the verdict is document 01's
-pub table-verdict : (codes : List ℕ) → IsTable codes → (s : List ℕ) → verdictOf (outcomeBy (dictionaryBy codes) s) ≡ commandVerdict s
-table-verdict codes is s =
-    verdict-told s _ (outcome-same (dictionaryBy codes) dictionary (table-same codes is) s ∙ outcome-is s)
+pub table-verdict : (table : List ℕ) → IsTable table → (s : List ℕ) → verdictOf (outcomeBy (dictionaryBy table) s) ≡ commandVerdict s
+table-verdict table is s =
+    verdict-told s _ (outcome-same (dictionaryBy table) dictionary (table-same table is) s ∙ outcome-is s)

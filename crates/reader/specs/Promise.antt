@@ -7,18 +7,17 @@ use Rattle.rules.specs.declared.Avp.{Avp}
 use Rattle.rules.specs.declared.Verdict.{Verdict}
 use Rattle.rules.specs.declared.Outcome.{Outcome}
 use Rattle.rules.specs.declared.Outcome.the-variants.{Pass, Refused}
-use Rattle.rules.specs.Verdict.{orElse, verdictOf}
+use Rattle.rules.specs.Verdict.{verdictOf}
 use Rattle.rules.specs.Header.{headerSize, headerOutcome}
 use Rattle.rules.specs.Dictionary.{Entry, dictionary}
 use Rattle.rules.specs.Walk.{mostAvps, avpsOf}
-use Rattle.rules.specs.Command.{walkedOutcome, commandOutcome, commandVerdict}
-use Rattle.walk.specs.Promise.{walkBy}
+use Rattle.rules.specs.Command.{walkBy, outcomeAfter, commandOutcome, commandVerdict}
 use Rattle.log.specs.Log.{avpsIn, putAvps}
 use Rattle.reader.specs.declared.Judgement.{Judgement}
 
 -- the outcome of a command whose walk goes by a dictionary
 unfoldable pub outcomeBy : List Entry → List ℕ → Outcome
-outcomeBy dict s = orElse (headerOutcome s) (walkedOutcome s (walkBy dict s))
+outcomeBy dict s = outcomeAfter s (walkBy dict s)
 
 -- the AVPs that such a walk met; none where the header is refused
 abbrev pub metBy : List Entry → List ℕ → Outcome → List Avp

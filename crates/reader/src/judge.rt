@@ -46,13 +46,13 @@ fn lists_outcome(s: &[u8], log: &[u32; limits::LOG_NUMBERS], count: usize) -> Ou
 // The AVPs of a command whose header passed: its walk by a table of plain codes, into a lent log, then its lists.
 fn judge_avps(
     s: &[u8],
-    codes: &[u8; plain::PLAIN_CODES],
+    table: &[u8; plain::PLAIN_CODES],
     log: &mut [u32; limits::LOG_NUMBERS],
 ) -> Judgement
     requires { ⌜ headerOutcome (now s) ≡ Outcome.Pass ⌝ }
-    ensures { λ r. ⌜ IsJudged (dictionaryBy (now (codes .entry))) (now (s .entry)) (now (log .entry)) r (now (log .exit)) ⌝ }
+    ensures { λ r. ⌜ IsJudged (dictionaryBy (now (table .entry))) (now (s .entry)) (now (log .entry)) r (now (log .exit)) ⌝ }
 {
-    let walked = walk::walk_command(s, codes, log);
+    let walked = walk::walk_command(s, table, log);
     match walked {
         Walk::Stopped(v) => Judgement {
             outcome: Outcome::Refused(v),
@@ -68,10 +68,10 @@ fn judge_avps(
 // A command judged into a lent log, by a table of plain codes.
 pub(crate) fn judge_by(
     s: &[u8],
-    codes: &[u8; plain::PLAIN_CODES],
+    table: &[u8; plain::PLAIN_CODES],
     log: &mut [u32; limits::LOG_NUMBERS],
 ) -> Judgement
-    ensures { λ r. ⌜ IsJudged (dictionaryBy (now (codes .entry))) (now (s .entry)) (now (log .entry)) r (now (log .exit)) ⌝ }
+    ensures { λ r. ⌜ IsJudged (dictionaryBy (now (table .entry))) (now (s .entry)) (now (log .entry)) r (now (log .exit)) ⌝ }
 {
     let header = header::header_outcome(s);
     let Outcome::Pass = header else {
@@ -80,10 +80,11 @@ pub(crate) fn judge_by(
             count: 0,
         };
     };
-    judge_avps(s, codes, log)
+    judge_avps(s, table, log)
 }
 
-// A command judged into a lent log. The table of plain codes is made once its header passed.
+// A command judged into a lent log. The table of plain codes is made behind the header's checks, so that a refusal there
+// does not pay for it.
 pub(crate) fn judge(s: &[u8], log: &mut [u32; limits::LOG_NUMBERS]) -> Judgement
     ensures { λ r. ⌜ IsJudged dictionary (now (s .entry)) (now (log .entry)) r (now (log .exit)) ⌝ }
 {
@@ -94,6 +95,6 @@ pub(crate) fn judge(s: &[u8], log: &mut [u32; limits::LOG_NUMBERS]) -> Judgement
             count: 0,
         };
     };
-    let codes = dictionary::plain_codes();
-    judge_avps(s, &codes, log)
+    let table = dictionary::plain_table();
+    judge_avps(s, &table, log)
 }

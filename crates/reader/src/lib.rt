@@ -56,16 +56,16 @@ pub fn verdict(s: &[u8], log: &mut [u32; limits::LOG_NUMBERS]) -> Verdict
     verdict_of(outcome(s, log))
 }
 
-// The same by a lent table of plain codes, for a caller with many commands: the right one, `dictionary::plain_codes`, is
-// made once. What another table gives is stated too.
+// The same by a lent table of plain codes, for a caller with many commands: the right one, `dictionary::plain_table`,
+// is made once. What another table gives is stated too.
 pub fn verdict_by(
     s: &[u8],
-    codes: &[u8; plain::PLAIN_CODES],
+    table: &[u8; plain::PLAIN_CODES],
     log: &mut [u32; limits::LOG_NUMBERS],
 ) -> Verdict
-    ensures { λ r. ⌜ JudgedBy (dictionaryBy (now (codes .entry))) (now (s .entry)) (now (log .entry)) r (now (log .exit)) ⌝ }
+    ensures { λ r. ⌜ JudgedBy (dictionaryBy (now (table .entry))) (now (s .entry)) (now (log .entry)) r (now (log .exit)) ⌝ }
 {
-    let judged = judge::judge_by(s, codes, log);
+    let judged = judge::judge_by(s, table, log);
     let outcome = judged.outcome;
     verdict_of(outcome)
 }

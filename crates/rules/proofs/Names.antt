@@ -1,5 +1,5 @@
--- Laws of a search by vendor and code, over any list of names, as the rows of a list. They say when the search answers as
--- a `match` on the two numbers does.
+-- Laws of a search by vendor and code over a list of names, such as the rows of a list: when it answers as a `match` on
+-- the two numbers does.
 use mathlib.Core.Path.{_≡_, refl, sym, ap, _∙_}
 use mathlib.Core.List.{List, [], _∷_}
 use mathlib.Core.Bool.{Bool, true, false, cond, _&&_, _||_}

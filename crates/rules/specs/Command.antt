@@ -11,7 +11,7 @@ use Rattle.rules.specs.declared.Grammar.{Grammar}
 use Rattle.rules.specs.declared.Grammar.the-variants.{Request, Answer}
 use Rattle.rules.specs.Verdict.{orElse, verdictOf}
 use Rattle.rules.specs.Header.{headerSize, headerOutcome, commandFlags, isRequest}
-use Rattle.rules.specs.Dictionary.{dictionary}
+use Rattle.rules.specs.Dictionary.{Entry, dictionary}
 use Rattle.rules.specs.Walk.{Standing, Walked, whole, stopped, walkList}
 use Rattle.rules.specs.RowChecks.{rowsOutcome}
 use Rattle.rules.specs.Exchange.{exchangeOutcome}
@@ -24,9 +24,13 @@ commandGrammar flags = cond (isRequest flags) Request Answer
 abbrev pub ownList : List ℕ → Standing
 ownList s = record { at = headerSize; end = length s; depth = 1; count = 0 }
 
--- its walk; as many steps as the command has octets are enough
+-- its walk by a dictionary; as many steps as the command has octets are enough
+abbrev pub walkBy : List Entry → List ℕ → Walked
+walkBy dict s = walkList (length s) dict s (ownList s)
+
+-- its walk
 unfoldable pub walkOf : List ℕ → Walked
-walkOf s = walkList (length s) dictionary s (ownList s)
+walkOf s = walkBy dictionary s
 
 -- rows and exchange rules over the AVPs of the walk
 unfoldable pub listsOutcome : List ℕ → List Avp → Outcome
@@ -39,9 +43,12 @@ abbrev pub walkedOutcome : List ℕ → Walked → Outcome
 walkedOutcome s (whole xs) = listsOutcome s xs
 walkedOutcome s (stopped xs v) = Refused v
 
--- header, walk, rows, exchange rules, windows
+-- header, walk, rows, exchange rules, windows, where the walk ends like this
+abbrev pub outcomeAfter : List ℕ → Walked → Outcome
+outcomeAfter s w = orElse (headerOutcome s) (walkedOutcome s w)
+
 unfoldable pub commandOutcome : List ℕ → Outcome
-commandOutcome s = orElse (headerOutcome s) (walkedOutcome s (walkOf s))
+commandOutcome s = outcomeAfter s (walkOf s)
 
 -- the one answer to a slice of octets
 unfoldable pub commandVerdict : List ℕ → Verdict

@@ -125,13 +125,7 @@ widthOf Any = 0
 widthOf (Fixed w) = w
 widthOf (Group g) = 0
 
--- what 01 prints of a name: whether M must be set, the width, and for a group the number of its list
-pub record Printed : Type 0 where
-  pub known : Bool
-  pub m : Bool
-  pub width : ℕ
-  pub rows : ℕ
-
-abbrev pub printed : Definition → Printed
-printed (Known m form) = record { known = true; m = m; width = widthOf form; rows = rowsNumber (membersIn form) }
-printed Unknown = record { known = false; m = false; width = 0; rows = 0 }
+-- the same of what the dictionary says
+abbrev pub fixedWidth : Definition → ℕ
+fixedWidth (Known m form) = widthOf form
+fixedWidth Unknown = 0

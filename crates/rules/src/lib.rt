@@ -81,7 +81,8 @@ pub enum Form {
     Group(Grammar),
 }
 
-// What the dictionary says of a name: whether M must be set, and the form of the data.
+// What the dictionary says of a name: whether M must be set, and the form of the data. The rules are defined by it; the
+// code asks the facts one by one, by the number of an entry.
 pub enum Definition {
     Known { m: bool, form: Form },
     Unknown,

@@ -1,6 +1,5 @@
-// The numbers of documents 01 and 02 that are not AVP codes: the Nt application and its command code, the vendors, and the
-// limits.
-// Those of a log and of a record at the boundary are this repository's own.
+// The numbers of documents 01 and 02 that are not AVP codes: the Nt application and its command code, the vendors, and
+// the limits. Those of a log and of a record at the boundary are this repository's own.
 
 pub const APPLICATION_NT: u32 = 16777348;
 

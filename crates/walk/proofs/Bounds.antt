@@ -13,7 +13,7 @@ use Rattle.rules.specs.Verdict.{verdict, verdictOf}
 use Rattle.rules.specs.Avp.{endOf}
 use Rattle.rules.specs.Dictionary.{Entry}
 use Rattle.rules.specs.Walk.{Standing, checked, Walked, whole, stopped, avpsOf, stopOf, andThen, inGroup, behind, walkAvp, walkList}
-use Rattle.rules.specs.Command.{ownList, walkOf}
+use Rattle.rules.specs.Command.{ownList}
 use Rattle.rules.proofs.Walk.{by-cases, avps-after, avp-fault, avp-plain, avp-group, list-none, list-end, list-more}
 use Rattle.rules.proofs.Passed.{plain-framed, group-framed}
 use Rattle.log.specs.Log.{avpsIn, putAvps}

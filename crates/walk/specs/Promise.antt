@@ -15,7 +15,7 @@ use Rattle.rules.specs.Header.{longestCommand}
 use Rattle.rules.specs.Avp.{flagM, flagP, nextAt}
 use Rattle.rules.specs.Dictionary.{Entry}
 use Rattle.rules.specs.Walk.{Standing, mostAvps, deepest, Walked, whole, stopped, avpsOf, stopOf, walkAvp, walkList}
-use Rattle.rules.specs.Command.{ownList}
+use Rattle.rules.specs.Command.{walkBy}
 use Rattle.log.specs.Log.{avpsIn, putAvps}
 use Rattle.walk.specs.declared.frame.Frame.{Frame}
 use Rattle.walk.specs.declared.frame.Frame.the-variants.{Holds, Broken}
@@ -86,10 +86,6 @@ pub record ListWalked (dict : List Entry) (s : List ℕ) (w : Standing) (before 
   pub answer : (n : ℕ) → w .end - w .at ≤ n → r ≡ answerOf (w .count) (walkList n dict s w)
   pub logged : (n : ℕ) → w .end - w .at ≤ n → after ≡ putAvps before (w .count) (avpsOf (walkList n dict s w))
   pub within : (c : ℕ) → r ≡ Whole c → c ≤ mostAvps
-
--- the walk of a command's own list by a dictionary; document 01's walk goes by its own
-abbrev pub walkBy : List Entry → List ℕ → Walked
-walkBy dict s = walkList (length s) dict s (ownList s)
 
 -- the walk of a command; one longer than 16,384 octets is 7001 at 1, as by its header
 unfoldable pub commandWalk : List Entry → List ℕ → Walked

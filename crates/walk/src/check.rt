@@ -134,11 +134,11 @@ fn content(s: &[u8], at: usize, a: Avp, entry: u8) -> Outcome
 }
 
 // Checks 3 to 7 of the AVP at a place, and whether its data are a list, by a table of plain codes.
-fn judged(s: &[u8], at: usize, a: Avp, codes: &[u8; plain::PLAIN_CODES]) -> Checked
+fn judged(s: &[u8], table: &[u8; plain::PLAIN_CODES], at: usize, a: Avp) -> Checked
     requires { ⌜ (at + headerOf false ≤ length (now s)) × (at ≤ longestCommand) ⌝ }
-    ensures { λ r. ⌜ r ≡ checkedAvp (dictionaryBy (now (codes .entry))) (now (s .entry)) at a ⌝ }
+    ensures { λ r. ⌜ r ≡ checkedAvp (dictionaryBy (now (table .entry))) (now (s .entry)) at a ⌝ }
 {
-    let entry = dictionary::entry_by(codes, a.vendor, a.code);
+    let entry = dictionary::entry_by(table, a.vendor, a.code);
     let outcome = content(s, at, a, entry);
     if let Outcome::Refused(v) = outcome {
         return Checked::Fault(v);
@@ -152,21 +152,21 @@ fn judged(s: &[u8], at: usize, a: Avp, codes: &[u8; plain::PLAIN_CODES]) -> Chec
 // The seven checks of the AVP at a place of a list, with `count` AVPs in the record already.
 pub(crate) fn check(
     s: &[u8],
+    table: &[u8; plain::PLAIN_CODES],
     at: usize,
     end: usize,
     depth: u32,
     count: usize,
-    codes: &[u8; plain::PLAIN_CODES],
 ) -> Checked
     requires { ⌜ InList (now s) at end ⌝ }
-    ensures { λ r. ⌜ r ≡ checked (dictionaryBy (now (codes .entry))) (now (s .entry)) (standing at end depth count) ⌝ }
+    ensures { λ r. ⌜ r ≡ checked (dictionaryBy (now (table .entry))) (now (s .entry)) (standing at end depth count) ⌝ }
 {
     if limits::MOST_AVPS <= count {
         return Checked::Fault(frame::fault(7002, at, 0, 0));
     }
     let framed = frame::framed(s, at, end, depth);
     match framed {
-        Frame::Holds(a) => judged(s, at, a, codes),
+        Frame::Holds(a) => judged(s, table, at, a),
         Frame::Broken(v) => Checked::Fault(v),
     }
 }

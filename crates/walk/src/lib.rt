@@ -26,17 +26,17 @@ enum Step {
 // One AVP of the list that ends at `end`, with `count` AVPs in the log already.
 fn walk_avp(
     s: &[u8],
+    table: &[u8; plain::PLAIN_CODES],
     at: usize,
     end: usize,
     depth: u32,
     count: usize,
-    codes: &[u8; plain::PLAIN_CODES],
     log: &mut [u32; limits::LOG_NUMBERS],
 ) -> Step
     requires { ⌜ StandsIn (now s) (standing at end depth count) ⌝ }
-    ensures { λ r. ⌜ AvpWalked (dictionaryBy (now (codes .entry))) (now (s .entry)) (standing at end depth count) (now (log .entry)) r (now (log .exit)) ⌝ }
+    ensures { λ r. ⌜ AvpWalked (dictionaryBy (now (table .entry))) (now (s .entry)) (standing at end depth count) (now (log .entry)) r (now (log .exit)) ⌝ }
 {
-    let c = check::check(s, at, end, depth, count, codes);
+    let c = check::check(s, table, at, end, depth, count);
     match c {
         Checked::Fault(v) => Step::Halted(v),
         Checked::Plain(a) => {
@@ -50,7 +50,7 @@ fn walk_avp(
             log::put(log, count, a);
             let start = a.start as usize;
             let length = a.length as usize;
-            let members = walk_list(s, start, start + length, depth + 1, count + 1, codes, log);
+            let members = walk_list(s, table, start, start + length, depth + 1, count + 1, log);
             match members {
                 Walk::Whole(c) => Step::On {
                     count: c,
@@ -65,20 +65,20 @@ fn walk_avp(
 // The AVPs from a place to the end of their list.
 fn walk_list(
     s: &[u8],
+    table: &[u8; plain::PLAIN_CODES],
     at: usize,
     end: usize,
     depth: u32,
     count: usize,
-    codes: &[u8; plain::PLAIN_CODES],
     log: &mut [u32; limits::LOG_NUMBERS],
 ) -> Walk
     requires { ⌜ StandsIn (now s) (standing at end depth count) ⌝ }
-    ensures { λ r. ⌜ ListWalked (dictionaryBy (now (codes .entry))) (now (s .entry)) (standing at end depth count) (now (log .entry)) r (now (log .exit)) ⌝ }
+    ensures { λ r. ⌜ ListWalked (dictionaryBy (now (table .entry))) (now (s .entry)) (standing at end depth count) (now (log .entry)) r (now (log .exit)) ⌝ }
 {
     let mut place = at;
     let mut met = count;
     while place < end {
-        let one = walk_avp(s, place, end, depth, met, codes, log);
+        let one = walk_avp(s, table, place, end, depth, met, log);
         match one {
             Step::On { count: c, next } => {
                 place = next;
@@ -90,14 +90,14 @@ fn walk_list(
     Walk::Whole(met)
 }
 
-// The walk of a command's own list, by a table of plain codes. A command without the octets of a header has no list; one
-// that is longer than any is refused as by its header.
+// The walk of a command's own list, by a table of plain codes. A command without the octets of a header has no list;
+// one that is longer than any is refused as by its header.
 pub fn walk_command(
     s: &[u8],
-    codes: &[u8; plain::PLAIN_CODES],
+    table: &[u8; plain::PLAIN_CODES],
     log: &mut [u32; limits::LOG_NUMBERS],
 ) -> Walk
-    ensures { λ r. ⌜ CommandWalked (dictionaryBy (now (codes .entry))) (now (s .entry)) (now (log .entry)) r (now (log .exit)) ⌝ }
+    ensures { λ r. ⌜ CommandWalked (dictionaryBy (now (table .entry))) (now (s .entry)) (now (log .entry)) r (now (log .exit)) ⌝ }
 {
     log::size(log);
     if limits::LONGEST_COMMAND < s.len() {
@@ -111,5 +111,5 @@ pub fn walk_command(
     if s.len() < limits::HEADER_SIZE {
         return Walk::Whole(0);
     }
-    walk_list(s, limits::HEADER_SIZE, s.len(), 1, 0, codes, log)
+    walk_list(s, table, limits::HEADER_SIZE, s.len(), 1, 0, log)
 }

@@ -1,8 +1,11 @@
-//! Compares the proved reader, over its boundary, with the second reader on generated commands: the verdict, the whole
-//! record, the data of every position and the search; and the seconds between two generated times with each command.
+//! Compares the proved reader, over its boundary, with the second reader on a command for each name and on generated
+//! commands: the verdict, the whole record, the data of every position and the search; and the seconds between two
+//! generated times with each command.
 //!
 //! `compare SEED COMMANDS` ends with a table of what was reached. It exits 1 at the first difference, with the command
 //! in hexadecimal, or where a cell of the table is empty.
+
+mod names;
 
 use second_reader::coverage::Coverage;
 use second_reader::generate::{command, Prng};
@@ -24,13 +27,16 @@ fn main() -> ExitCode {
     let mut prng = Prng::new(seed);
     let mut reader = talazumir::Reader::new();
     let mut coverage = Coverage::default();
+    for octets in names::commands() {
+        if let Err(difference) = compare(&octets, &mut reader) {
+            return differs("a name", &difference, &octets);
+        }
+    }
     for ordinal in 1..=commands {
         let octets = shortened(command(&mut prng), &mut prng);
         let compared = compare(&octets, &mut reader).and_then(|()| compare_seconds(&mut prng));
         if let Err(difference) = compared {
-            println!("seed {seed}, command {ordinal}: {difference}");
-            println!("{}", octets.iter().map(|octet| format!("{octet:02x}")).collect::<String>());
-            return ExitCode::FAILURE;
+            return differs(format_args!("seed {seed}, command {ordinal}"), &difference, &octets);
         }
         coverage.note(&octets, &second_reader::verdict(&octets));
     }
@@ -49,6 +55,12 @@ fn main() -> ExitCode {
 fn usage() -> ExitCode {
     eprintln!("compare SEED COMMANDS");
     ExitCode::from(2)
+}
+
+fn differs(of: impl Display, difference: &str, octets: &[u8]) -> ExitCode {
+    println!("{of}: {difference}");
+    println!("{}", octets.iter().map(|octet| format!("{octet:02x}")).collect::<String>());
+    ExitCode::FAILURE
 }
 
 /// One command in fifty loses some octets at its end, so that its length field is not the slice's length.

@@ -11,8 +11,8 @@ use Rattle.book.proofs.listing.Tie as tie
 is-book-requires : tie.Need-is-book-requires
 is-book-requires c κs = search needs
 
-plain-codes-requires : tie.Need-plain-codes-requires
-plain-codes-requires c κs = search needs
+plain-table-requires : tie.Need-plain-table-requires
+plain-table-requires c κs = search needs
 
 slice-aggregate-put-first-line : tie.Need-slice-aggregate-put-first-line
 slice-aggregate-put-first-line c = search needs
@@ -27,7 +27,7 @@ put-lines-requires c κs =
     let i = p .before in
     let head = head-put {r = w .put-first-line .result} (sym (i .before .is-book .ensures) ∙ i .if1 .taken)
     (omega (arith, w .put-first-line .ensures .next)) in
-    (head, p .plain-codes .ensures)
+    (head, p .plain-table .ensures)
 
 returns : tie.Need-returns
 returns c =
@@ -57,7 +57,7 @@ listing-spec =
     tie.close
     (tie.spec
     is-book-requires
-    plain-codes-requires
+    plain-table-requires
     slice-aggregate-put-first-line
     put-first-line-requires
     put-lines-requires

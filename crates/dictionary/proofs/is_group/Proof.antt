@@ -2,7 +2,7 @@
 use mathlib.Core.Path.{refl, sym}
 use Prim.Native.Nat.{ℕ}
 use mathlib.Core.Path.{_≡_}
-use mathlib.Core.Bool.{Bool, false, not}
+use mathlib.Core.Bool.{Bool, false}
 use Rattle.rules.specs.Dictionary.{dictionary, isGroup}
 use Rattle.rules.proofs.Names.{answer-at}
 use Rattle.dictionary.specs.Entries.{definitionAt}

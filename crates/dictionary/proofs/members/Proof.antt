@@ -2,13 +2,13 @@
 use borrow.Author.Needs.{needs}
 use Rattle.rules.specs.Dictionary.{dictionary}
 use Rattle.rules.proofs.Outcomes.{answers}
-use Rattle.dictionary.specs.Entries.{numberWhere, definitionAt, vendorAt}
+use Rattle.dictionary.specs.Entries.{numberWhere, definitionAt, vendorOf}
 use Rattle.dictionary.proofs.Entries.{members-at, no-members}
 use Rattle.dictionary.proofs.members.Statement.{statement}
 use Rattle.dictionary.proofs.members.Tie as tie
 
 pub members-spec : {M : Type 1} → statement M
-unfolding numberWhere definitionAt vendorAt dictionary
+unfolding numberWhere definitionAt vendorOf dictionary
 members-spec =
     tie.close
     (tie.spec

@@ -4,7 +4,7 @@ use mathlib.Core.Path.{_≡_, refl, sym, _∙_}
 use Prim.Native.Nat.{ℕ}
 use mathlib.Core.Bool.{Bool, not}
 use borrow.Author.Tests.{not-false}
-use Rattle.rules.specs.Dictionary.{Entry, dictionary, isKnown, requiresM}
+use Rattle.rules.specs.Dictionary.{dictionary, isKnown, requiresM}
 use Rattle.rules.proofs.Names.{answer-at}
 use Rattle.dictionary.specs.Entries.{definitionAt}
 use Rattle.dictionary.proofs.Entries.{other-definition}

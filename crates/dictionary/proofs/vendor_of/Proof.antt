@@ -1,18 +1,18 @@
 -- `dictionary::vendor_of` meets its contract: an arm knows the entry, and `_` that it is none.
-use mathlib.Core.Path.{refl, sym}
+use mathlib.Core.Path.{refl}
 use Prim.Native.Nat.{ℕ}
 use Rattle.rules.specs.Dictionary.{dictionary}
 use Rattle.rules.proofs.Names.{answer-at}
-use Rattle.dictionary.specs.Entries.{vendorAt}
+use Rattle.dictionary.specs.Entries.{vendorOf}
 use Rattle.dictionary.proofs.Entries.{other-vendor}
 use Rattle.dictionary.proofs.vendor_of.Statement.{statement}
 use Rattle.dictionary.proofs.vendor_of.Tie as tie
 
 abbrev says : ℕ → ℕ
-says = vendorAt dictionary
+says = vendorOf dictionary
 
 pub vendor-of-spec : {M : Type 1} → statement M
-unfolding vendorAt dictionary
+unfolding vendorOf dictionary
 vendor-of-spec =
     tie.close
     (tie.spec

@@ -5,7 +5,7 @@ use mathlib.Core.Path.{_≡_}
 use mathlib.Core.Bool.{Bool, false, not}
 use lib.Dec.{eqb}
 use borrow.Author.Tests.{eqb-true, not-false}
-use Rattle.rules.specs.Dictionary.{Entry, dictionary, widthOf, printed}
+use Rattle.rules.specs.Dictionary.{Entry, dictionary, widthOf, fixedWidth}
 use Rattle.rules.proofs.Names.{answer-at}
 use Rattle.dictionary.specs.Entries.{definitionAt}
 use Rattle.dictionary.proofs.Entries.{other-definition}
@@ -13,7 +13,7 @@ use Rattle.dictionary.proofs.width.Statement.{statement}
 use Rattle.dictionary.proofs.width.Tie as tie
 
 abbrev says : ℕ → ℕ
-says n = printed (definitionAt dictionary n) .width
+says n = fixedWidth (definitionAt dictionary n)
 
 -- an entry with a fixed width
 abbrev isFixed : Entry → Bool
@@ -50,4 +50,4 @@ width-spec =
     (λ c. answer-at says (c .match .keys21) refl refl)
     (λ c. answer-at says (c .match .keys22) refl refl)
     (λ c. answer-at says (c .match .keys23) refl refl)
-    (λ c. other-definition (λ d. 0 ≡ printed d .width) isFixed refl any-length dictionary _ (c .match .rest)))
+    (λ c. other-definition (λ d. 0 ≡ fixedWidth d) isFixed refl any-length dictionary _ (c .match .rest)))

@@ -28,10 +28,10 @@ use Rattle.walk.proofs.+walk_avp+walk_list.{statement}
 use Rattle.walk.proofs.+walk_avp+walk_list.Tie.{close}
 
 abbrev μ-walk-avp : Measures 3 walk-avp-kinds.ps ℕ
-μ-walk-avp κs a = 2 * (4 - a .1 .1 .1 .0)
+μ-walk-avp κs a = 2 * (4 - a .1 .1 .1 .1 .0)
 
 abbrev μ-walk-list : Measures 3 walk-list-kinds.ps ℕ
-μ-walk-list κs a = 2 * (4 - a .1 .1 .1 .0) + 1
+μ-walk-list κs a = 2 * (4 - a .1 .1 .1 .1 .0) + 1
 
 abbrev walk-avp-at : ℕ → In 3 walk-avp-kinds.ps
 walk-avp-at t = and 3 walk-avp-kinds.ps (is 3 walk-avp-kinds.ps μ-walk-avp t) walk-avp.Pre
@@ -62,7 +62,7 @@ walk-avp-claims t = (
 
 -- the dictionary that the AVP walk goes by
 abbrev dict : (t : ℕ) → walk-avp-lts.Start (walk-avp-claims t) (walk-avp-at t) walk-avp.Post → List Entry
-dict t st = dictionaryBy (st .args .codes .now)
+dict t st = dictionaryBy (st .args .table .now)
 
 -- where the AVP walk stands
 abbrev here : (t : ℕ) → walk-avp-lts.Start (walk-avp-claims t) (walk-avp-at t) walk-avp.Post → Standing
@@ -180,11 +180,11 @@ walk-avp-returns-4 : (t : ℕ) → walk-avp-lts.Need-returns-4 (walk-avp-claims 
 walk-avp-returns-4 t c = rw (c .before .members2 .given .1) at (group-promise t (c .before .before .before))
 
 abbrev walk-list-Inv-loop : walk-list-lts.InvT-loop
-walk-list-Inv-loop s at end depth count codes log₀ place₀ met₀ log place met =
-    Turn (dictionaryBy codes) s (standing at end depth count) log₀ place met log
+walk-list-Inv-loop s table at end depth count log₀ place₀ met₀ log place met =
+    Turn (dictionaryBy table) s (standing at end depth count) log₀ place met log
 
 abbrev walk-list-μ-loop : walk-list-lts.MeasureT-loop
-walk-list-μ-loop s at end depth count codes log₀ place₀ met₀ log place met = end - place
+walk-list-μ-loop s table at end depth count log₀ place₀ met₀ log place met = end - place
 
 walk-list-loop-holds :
     (t : ℕ) →

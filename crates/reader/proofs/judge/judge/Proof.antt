@@ -23,8 +23,8 @@ returns c =
     let a = h .before .before .args in
     judged-header dictionary (a .s .now) (a .log .now) _ (h .header-outcome .ensures) (c .enum-told2 .given .1)
 
-plain-codes-requires : tie.Need-plain-codes-requires
-plain-codes-requires c κs = search needs
+plain-table-requires : tie.Need-plain-table-requires
+plain-table-requires c κs = search needs
 
 judge-avps-requires : tie.Need-judge-avps-requires
 judge-avps-requires c κs =
@@ -37,7 +37,7 @@ returns-2 c =
     let p = c .before .before .before in
     let h = p .before .before .before in
     let a = h .before .before .args in
-    judged-same (dictionaryBy (p .plain-codes .result)) dictionary (table-same (p .plain-codes .result) (p .plain-codes .ensures))
+    judged-same (dictionaryBy (p .plain-table .result)) dictionary (table-same (p .plain-table .result) (p .plain-table .ensures))
     (a .s .now) (a .log .now) (c .judge-avps .ensures)
 
 pub judge-spec : {M : Type 1} → statement M
@@ -48,6 +48,6 @@ judge-spec =
     enum-told
     enum-told-2
     returns
-    plain-codes-requires
+    plain-table-requires
     judge-avps-requires
     returns-2)

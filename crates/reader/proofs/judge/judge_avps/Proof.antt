@@ -17,14 +17,14 @@ enum-known-walked-2 c = search needs
 lists-outcome-requires : tie.Need-lists-outcome-requires
 lists-outcome-requires c κs =
     let st = c .before .before .before .before .before .before .before in
-    (header-long (dictionaryBy (st .args .codes .now)) (st .args .s .now) (st .pre), header-short (dictionaryBy (st .args .codes .now)) (st .args .s .now) (st .pre))
+    (header-long (dictionaryBy (st .args .table .now)) (st .args .s .now) (st .pre), header-short (dictionaryBy (st .args .table .now)) (st .args .s .now) (st .pre))
 
 returns : tie.Need-returns
 returns c =
     let w = c .before .before .before in
     let st = w .before .before .before in
     let a = st .args in
-    judged-stopped (dictionaryBy (a .codes .now)) (a .s .now) (st .pre) (a .log .now) _ _ (w .walk-command .ensures) _ (c .before .walked .given .1)
+    judged-stopped (dictionaryBy (a .table .now)) (a .s .now) (st .pre) (a .log .now) _ _ (w .walk-command .ensures) _ (c .before .walked .given .1)
 
 returns-2 : tie.Need-returns-2
 returns-2 c =
@@ -32,7 +32,7 @@ returns-2 c =
     let w = k .before .before in
     let st = w .before .before .before in
     let a = st .args in
-    judged-whole (dictionaryBy (a .codes .now)) (a .s .now) (st .pre) (a .log .now) _ _ (w .walk-command .ensures) _ (k .walked2 .given .1) _ (c .lists-outcome .ensures)
+    judged-whole (dictionaryBy (a .table .now)) (a .s .now) (st .pre) (a .log .now) _ _ (w .walk-command .ensures) _ (k .walked2 .given .1) _ (c .lists-outcome .ensures)
 
 pub judge-avps-spec : {M : Type 1} → statement M
 judge-avps-spec =

@@ -19,7 +19,7 @@ returns : tie.Need-returns
 returns c =
     let h = c .before .before in
     let a = h .before .before .args in
-    judged-header (dictionaryBy (a .codes .now)) (a .s .now) (a .log .now) _ (h .header-outcome .ensures) (c .enum-told2 .given .1)
+    judged-header (dictionaryBy (a .table .now)) (a .s .now) (a .log .now) _ (h .header-outcome .ensures) (c .enum-told2 .given .1)
 
 judge-avps-requires : tie.Need-judge-avps-requires
 judge-avps-requires c κs =

@@ -20,7 +20,7 @@ fault-requires c κs = search needs
 returns : tie.Need-returns
 returns c =
     let st = c .before .before .before in
-    ap Fault (c .fault .ensures) ∙ sym (checked-many (dictionaryBy (st .args .codes .now)) (st .args .s .now) (here st) (omega (arith, c .before .if1 .taken)))
+    ap Fault (c .fault .ensures) ∙ sym (checked-many (dictionaryBy (st .args .table .now)) (st .args .s .now) (here st) (omega (arith, c .before .if1 .taken)))
 
 framed-requires : tie.Need-framed-requires
 framed-requires c κs = search needs
@@ -44,13 +44,13 @@ returns-2 c =
     let f = h .before .before in
     let st = f .before .before .before in
     c .judged .ensures
-    ∙ sym (holds-checked (st .args .s .now) (here st) (dictionaryBy (st .args .codes .now)) (omega (arith, f .before .if1 .left)) (sym (h .framed2 .given .1) ∙ f .framed .ensures))
+    ∙ sym (holds-checked (st .args .s .now) (here st) (dictionaryBy (st .args .table .now)) (omega (arith, f .before .if1 .left)) (sym (h .framed2 .given .1) ∙ f .framed .ensures))
 
 returns-3 : tie.Need-returns-3
 returns-3 c =
     let f = c .before .before .before in
     let st = f .before .before .before in
-    sym (broken-checked (st .args .s .now) (here st) (dictionaryBy (st .args .codes .now)) (omega (arith, f .before .if1 .left)) (sym (c .before .framed3 .given .1) ∙ f .framed .ensures))
+    sym (broken-checked (st .args .s .now) (here st) (dictionaryBy (st .args .table .now)) (omega (arith, f .before .if1 .left)) (sym (c .before .framed3 .given .1) ∙ f .framed .ensures))
 
 pub check-spec : {M : Type 1} → statement M
 check-spec =

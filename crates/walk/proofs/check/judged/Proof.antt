@@ -11,10 +11,10 @@ use Rattle.walk.proofs.check.judged.Tie as tie
 -- what is said of the name
 says : (c : tie.After-entry-by) →
     let a = c .before .before .args in
-    find (dictionaryBy (a .codes .now)) (a .a .vendor) (a .a .code) ≡ definitionAt dictionary (c .entry-by .result)
+    find (dictionaryBy (a .table .now)) (a .a .vendor) (a .a .code) ≡ definitionAt dictionary (c .entry-by .result)
 says c =
     let a = c .before .before .args in
-    by-table (a .codes .now) (a .a .vendor) (a .a .code) ∙ ap (definitionAt dictionary) (sym (c .entry-by .ensures))
+    by-table (a .table .now) (a .a .vendor) (a .a .code) ∙ ap (definitionAt dictionary) (sym (c .entry-by .ensures))
 
 entry-by-requires : tie.Need-entry-by-requires
 entry-by-requires c κs = search needs
