@@ -160,9 +160,9 @@ fn plain_entry(table: &[u8; plain::PLAIN_CODES], code: u32) -> u8
     table[place]
 }
 
-// The entry of a name by a table of plain codes: a name without vendor through the table, others by the search. By the
-// table above it is the entry that the search finds. The search for a name of 3GPP is handed the vendor as a constant,
-// so that the compiled one has no test of it.
+// The entry of a name by a table of plain codes: a name without vendor through the table, another as the search finds
+// it; only 3GPP has entries. By the table above it is always as the search finds it. The search is handed the vendor as
+// a constant, so that the compiled one has no test of it.
 pub fn entry_by(table: &[u8; plain::PLAIN_CODES], vendor: u32, code: u32) -> u8
     ensures { λ r. ⌜ r ≡ entryBy (now (table .entry)) vendor code ⌝ }
 {
