@@ -3,12 +3,12 @@
 use mathlib.Core.Path.{_≡_, refl, sym, ap, _∙_}
 use mathlib.Core.List.{List, [], _∷_}
 use mathlib.Core.Bool.{Bool, true, false, cond, not, _&&_}
-use Prim.Native.Nat.{ℕ, zero, suc, _+_}
+use Prim.Native.Nat.{ℕ, zero, suc, _+_, _*_, _/_, _%_, _<_, _≤_}
 use native.Mathlib.Nat.{add-zero, zero-add}
 use native.Mathlib.Omega.{arith}
-use lib.Dec.{T, eqb, ltb, leb·suc-suc}
+use lib.Dec.{T, eqb, ltb, leb, leb·suc-suc}
 use lib.ListN.{length}
-use borrow.Author.Tests.{lt-ltb, le-ltb, eqb-true, eq-eqb, ne-eqb}
+use borrow.Author.Tests.{lt-ltb, le-ltb, eqb-true, eq-eqb, ne-eqb, le-leb, lt-leb}
 use Rattle.rules.specs.declared.Definition.{Definition}
 use Rattle.rules.specs.declared.Definition.the-variants.{Known, Unknown}
 use Rattle.rules.specs.declared.Form.{Form}
@@ -16,11 +16,11 @@ use Rattle.rules.specs.declared.Form.the-variants.{Any, Fixed, Group}
 use Rattle.rules.specs.declared.Members.{Members}
 use Rattle.rules.specs.declared.Members.the-variants.{Under, NoMembers}
 use Rattle.rules.specs.Verdict.{Answers}
-use Rattle.rules.specs.Dictionary.{Entry, find, isKnown, fitsForm, fitsWidth, widthOf, fixedWidth, membersOf, membersIn, hasMembers, rowsNumber}
+use Rattle.rules.specs.Dictionary.{Entry, find, isKnown, requiresM, isGroup, fitsForm, fitsWidth, widthOf, fixedWidth, membersOf, membersIn, hasMembers, rowsNumber}
 use Rattle.rules.proofs.Names.{Absent, consIf, both-hold, among, absent-differs}
 use Rattle.rules.proofs.Outcomes.{answers}
 use Rattle.rules.proofs.Tests.{and-true}
-use Rattle.dictionary.specs.Entries.{numberWhere, entryOf, entryWithCode, saidAt, definitionAt, vendorOf}
+use Rattle.dictionary.specs.Entries.{numberWhere, entryOf, saidAt, definitionAt, vendorOf, factsOf}
 
 -- ---- the entry that a search finds
 
@@ -48,6 +48,19 @@ found-is (e ∷ es) vendor code =
     ∙ ap (λ (t : Bool). cond t (Known (e .m) (e .form)) (find es vendor code)) (and-comm (eqb code (e .code)) (eqb vendor (e .vendor)))
 
 -- ---- a number behind the last entry
+
+-- a search gives no number behind that
+few-where : (test : Entry → Bool) (es : List Entry) → numberWhere test es ≤ length es
+unfolding numberWhere
+few-where test [] = omega arith
+few-where test (e ∷ es) = cond-few (test e) (numberWhere test es) (length es) (few-where test es)
+  where
+    cond-few : (b : Bool) (m n : ℕ) → m ≤ n → cond b 0 (suc m) ≤ suc n
+    cond-few true m n h = omega arith
+    cond-few false m n h = omega arith
+
+pub few-entries : (es : List Entry) (vendor code : ℕ) → entryOf es vendor code ≤ length es
+few-entries es vendor code = few-where (λ e. eqb code (e .code) && eqb vendor (e .vendor)) es
 
 pub known-below : (es : List Entry) (n : ℕ) → ltb n (length es) ≡ isKnown (definitionAt es n)
 unfolding definitionAt
@@ -109,6 +122,10 @@ cond-outside : {A B : Type 0} (f : A → B) (b : Bool) (x y : A) → f (cond b x
 cond-outside f true x y = refl
 cond-outside f false x y = refl
 
+-- the number of the first entry with a code, whatever its vendor
+abbrev entryWithCode : List Entry → ℕ → ℕ
+entryWithCode dict code = numberWhere (λ e. eqb code (e .code)) dict
+
 -- the entry that a code leads to, where it has this vendor
 abbrev ofVendor : List Entry → ℕ → ℕ → ℕ
 ofVendor es vendor code = cond (eqb vendor (vendorOf es (entryWithCode es code))) (entryWithCode es code) (length es)
@@ -139,18 +156,6 @@ by-code [] vendor code t = cond-same (eqb vendor (vendorOf [] 0)) 0
 by-code (e ∷ es) vendor code t =
     let b = both-hold (noneOf (λ f. eqb (e .code) (f .code)) es) (distinct es) t in
     by-one-code e es vendor code (eqb code (e .code)) refl (b .0) (by-code es vendor code (b .1))
-
-pub own-vendor : (es : List Entry) (vendor code : ℕ) {n v : ℕ} → T (distinct es) → n ≡ entryWithCode es code → v ≡ vendorOf es n
-    → v ≡ vendor → n ≡ entryOf es vendor code
-own-vendor es vendor code t p q r =
-    let own : vendor ≡ vendorOf es (entryWithCode es code) = sym r ∙ q ∙ ap (vendorOf es) p in
-    p ∙ sym (by-code es vendor code t ∙ (rw (eq-eqb vendor (vendorOf es (entryWithCode es code)) own)))
-
-pub others-vendor : (es : List Entry) (vendor code : ℕ) {n v : ℕ} → T (distinct es) → n ≡ entryWithCode es code → v ≡ vendorOf es n
-    → (v ≡ vendor → ⊥) → length es ≡ entryOf es vendor code
-others-vendor es vendor code t p q r =
-    let apart : vendor ≡ vendorOf es (entryWithCode es code) → ⊥ = λ own. r (q ∙ ap (vendorOf es) p ∙ sym own) in
-    sym (by-code es vendor code t ∙ (rw (ne-eqb vendor (vendorOf es (entryWithCode es code)) apart)))
 
 -- ---- the members of a group by its code
 
@@ -238,17 +243,34 @@ module _ {A : Type 0} (none : A) (says : Entry → A) (P : A → Type 0) (test :
       → P (saidAt none says es (entryOf es vendor code))
   other-code es vendor code a = codes-before es vendor code [] a .0
 
--- a code that no entry has
-codes-lacking : (es : List Entry) (code : ℕ) (others : List ℕ) → Absent (codesWhere (λ e. true) es others) code
-    → T (noneOf (λ e. eqb code (e .code)) es) × Absent others code
-codes-lacking [] code others a = (tt, a)
-codes-lacking (e ∷ es) code others a =
-    let r = codes-lacking es code (e .code ∷ others) a in
-    (rw (ne-eqb code (e .code) (r .1 .1)) (r .0), r .1 .0)
+-- a code of a vendor's that no entry has, where a `match` has the vendor's codes of one part
+abbrev pub isInPart : ℕ → (ℕ → Bool) → Entry → Bool
+isInPart vendor inPart e = inPart (e .code) && eqb vendor (e .vendor)
 
-pub absent-code : (es : List Entry) (code : ℕ) → Absent (codesWhere (λ e. true) es []) code → entryWithCode es code ≡ length es
-absent-code es code a =
-    none-found (λ e. eqb code (e .code)) (λ e. eqb code (e .code)) (λ e f. f) es (codes-lacking es code [] a .0)
+one-lacking : (b : Bool) (code k : ℕ) (others : List ℕ) → Absent (consIf b k others) code
+    → ((b && eqb code k) ≡ false) × Absent others code
+one-lacking true code k others a = (ne-eqb code k (a .1), a .0)
+one-lacking false code k others a = (refl, a)
+
+codes-lacking : (test : Entry → Bool) (es : List Entry) (code : ℕ) (others : List ℕ)
+    → Absent (codesWhere test es others) code → T (noneOf (λ e. test e && eqb code (e .code)) es) × Absent others code
+codes-lacking test [] code others a = (tt, a)
+codes-lacking test (e ∷ es) code others a =
+    let r = codes-lacking test es code (consIf (test e) (e .code) others) a in
+    let one = one-lacking (test e) code (e .code) others (r .1) in
+    (rw (one .0) (r .0), one .1)
+
+not-in-part : (inPart : ℕ → Bool) (code k : ℕ) (own same : Bool) → inPart code ≡ true → eqb code k ≡ same
+    → ((inPart k && own) && same) ≡ false → (same && own) ≡ false
+not-in-part inPart code k own false h s f = refl
+not-in-part inPart code k own true h s f = sym (and-comm own true) ∙ (rw (← eqb-true code k s, h) at f)
+
+pub absent-code : (inPart : ℕ → Bool) (es : List Entry) (vendor code : ℕ) → inPart code ≡ true
+    → Absent (codesWhere (isInPart vendor inPart) es []) code → entryOf es vendor code ≡ length es
+absent-code inPart es vendor code h a =
+    none-found (λ e. isInPart vendor inPart e && eqb code (e .code)) (λ e. eqb code (e .code) && eqb vendor (e .vendor))
+    (λ e f. not-in-part inPart code (e .code) (eqb vendor (e .vendor)) (eqb code (e .code)) h refl f) es
+    (codes-lacking (isInPart vendor inPart) es code [] a .0)
 
 -- ---- by document 01's columns
 
@@ -259,15 +281,18 @@ pub other-definition : (P : Definition → Type 0) (test : Entry → Bool) → P
 unfolding definitionAt
 other-definition P test = other-number Unknown (λ e. Known (e .m) (e .form)) P test
 
-pub other-vendor : (es : List Entry) (n : ℕ) → Absent (numbersFrom (λ e. true) 0 es []) n → 0 ≡ vendorOf es n
-unfolding vendorOf
-other-vendor = other-number 0 (λ e. e .vendor) (λ v. 0 ≡ v) (λ e. true) refl (λ e h. let z : _≡_ {A = ℕ} 0 1 = cc in absurd (omega arith))
+-- a `match` that has every entry
+pub other-entry : {A : Type 0} (none : A) (says : Entry → A) (es : List Entry) (n : ℕ)
+    → Absent (numbersFrom (λ e. true) 0 es []) n → none ≡ saidAt none says es n
+other-entry none says =
+    other-number none says (λ s. none ≡ s) (λ e. true) refl
+    (λ e h. let z : _≡_ {A = ℕ} 0 1 = cc in absurd (omega arith))
 
 -- a group as an entry
 abbrev pub isGroupEntry : Entry → Bool
 isGroupEntry e = hasMembers (membersIn (e .form))
 
-no-list : (m : Members) → hasMembers m ≡ false → NoMembers ≡ m
+pub no-list : (m : Members) → hasMembers m ≡ false → NoMembers ≡ m
 no-list (Under g) h = let z : _≡_ {A = ℕ} 0 1 = cc in absurd (omega arith)
 no-list NoMembers h = refl
 
@@ -308,3 +333,34 @@ any-fits [] t n length h = refl
 any-fits (e ∷ es) t zero length h = form-fits (e .form) length (both-hold (not (isEmpty (e .form))) (noneOf (λ f. isEmpty (f .form)) es) t .0) h
 any-fits (e ∷ es) t (suc n) length h =
     any-fits es (both-hold (not (isEmpty (e .form))) (noneOf (λ f. isEmpty (f .form)) es) t .1) n length h
+
+-- ---- a definition as one number
+
+digit-below : (b : Bool) → cond b 1 0 < 2
+digit-below true = omega arith
+digit-below false = omega arith
+
+m-digit : (m : Bool) (g w : ℕ) → eqb ((cond m 1 0 + 2 * g + 4 * w) % 2) 1 ≡ m
+m-digit true g w = eq-eqb ((1 + 2 * g + 4 * w) % 2) 1 (omega arith)
+m-digit false g w =
+    let even : (0 + 2 * g + 4 * w) % 2 ≡ 0 = omega arith in
+    rw even
+
+group-digit : (m : ℕ) (g : Bool) (w : ℕ) → m < 2 → leb 2 ((m + 2 * cond g 1 0 + 4 * w) % 4) ≡ g
+group-digit m true w h = le-leb 2 ((m + 2 * 1 + 4 * w) % 4) (omega arith)
+group-digit m false w h = lt-leb 2 ((m + 2 * 0 + 4 * w) % 4) (omega arith)
+
+width-digit : (m g w : ℕ) → m < 2 → g < 2 → (m + 2 * g + 4 * w) / 4 ≡ w
+width-digit m g w h k = omega arith
+
+pub facts-m : (d : Definition) → eqb (factsOf d % 2) 1 ≡ requiresM d
+unfolding factsOf
+facts-m d = m-digit (requiresM d) (cond (isGroup d) 1 0) (fixedWidth d)
+
+pub facts-group : (d : Definition) → leb 2 (factsOf d % 4) ≡ isGroup d
+unfolding factsOf
+facts-group d = group-digit (cond (requiresM d) 1 0) (isGroup d) (fixedWidth d) (digit-below (requiresM d))
+
+pub facts-width : (d : Definition) → factsOf d / 4 ≡ fixedWidth d
+unfolding factsOf
+facts-width d = width-digit _ _ (fixedWidth d) (digit-below (requiresM d)) (digit-below (isGroup d))

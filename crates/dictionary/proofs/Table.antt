@@ -17,7 +17,7 @@ use Rattle.rules.specs.Dictionary.{Entry, find, dictionary}
 use Rattle.rules.proofs.Names.{both-hold}
 use Rattle.dictionary.specs.Entries.{entryOf, definitionAt}
 use Rattle.dictionary.specs.Table.{plainCodes, noEntry, plainEntry, IsTable, entryBy, consDefined, plainFrom, withVendor, dictionaryBy}
-use Rattle.dictionary.proofs.Entries.{found-is, noneOf, none-found, cond-same, definition-behind}
+use Rattle.dictionary.proofs.Entries.{found-is, few-entries, noneOf, none-found, cond-same, definition-behind}
 
 -- ---- the rule
 
@@ -86,7 +86,7 @@ found-at table is vendor code true h = rw (h, eqb-true vendor 0 h) (is .finds co
 found-at table is vendor code false h = rw h
 
 -- by the right table, every name is found as by a search
-table-finds : (table : List ℕ) → IsTable table → (vendor code : ℕ) → entryBy table vendor code ≡ entryOf dictionary vendor code
+pub table-finds : (table : List ℕ) → IsTable table → (vendor code : ℕ) → entryBy table vendor code ≡ entryOf dictionary vendor code
 table-finds table is vendor code = found-at table is vendor code (eqb vendor 0) refl
 
 -- ---- the dictionary that a table stands for
@@ -213,3 +213,8 @@ by-table table vendor code = found-by table vendor code (eqb vendor 0) refl
 pub table-same : (table : List ℕ) → IsTable table → (vendor code : ℕ) → find (dictionaryBy table) vendor code ≡ find dictionary vendor code
 table-same table is vendor code =
     by-table table vendor code ∙ ap (definitionAt dictionary) (table-finds table is vendor code) ∙ found-is dictionary vendor code
+
+-- the dictionary has 48 entries
+pub entry-few : (vendor code : ℕ) → entryOf dictionary vendor code ≤ 48
+unfolding dictionary
+entry-few vendor code = few-entries dictionary vendor code

@@ -1,11 +1,14 @@
-// The AVP kinds of document 01's dictionary, in the order of its entries: Vendor-Id, AVP code and, where it is fixed,
-// the width of the data, as constants of each kind; and the number of its entry, which is its position. The dictionary,
-// the rows and the exchange rules name an AVP by these alone.
+// The AVP kinds of document 01's dictionary, in the order of its entries: Vendor-Id and AVP code as constants of each
+// kind, and the number of its entry, which is its position. The dictionary, the rows and the exchange rules name an AVP
+// by these alone.
 use rules::limits::NO_VENDOR;
 use rules::limits::VENDOR_3GPP;
 
 // The number of a name that has no entry: behind the last one.
 pub const NO_ENTRY: u8 = 48;
+
+// How many entries there are.
+pub const ENTRIES: usize = NO_ENTRY as usize;
 
 // RFC 6733: four octets
 
@@ -15,8 +18,6 @@ impl AuthApplicationId {
     pub const VENDOR: u32 = NO_VENDOR;
 
     pub const CODE: u32 = 258;
-
-    pub const WIDTH: u32 = 4;
 
     pub const ENTRY: u8 = 0;
 }
@@ -28,8 +29,6 @@ impl AcctApplicationId {
 
     pub const CODE: u32 = 259;
 
-    pub const WIDTH: u32 = 4;
-
     pub const ENTRY: u8 = 1;
 }
 
@@ -39,8 +38,6 @@ impl RedirectHostUsage {
     pub const VENDOR: u32 = NO_VENDOR;
 
     pub const CODE: u32 = 261;
-
-    pub const WIDTH: u32 = 4;
 
     pub const ENTRY: u8 = 2;
 }
@@ -52,8 +49,6 @@ impl RedirectMaxCacheTime {
 
     pub const CODE: u32 = 262;
 
-    pub const WIDTH: u32 = 4;
-
     pub const ENTRY: u8 = 3;
 }
 
@@ -63,8 +58,6 @@ impl VendorId {
     pub const VENDOR: u32 = NO_VENDOR;
 
     pub const CODE: u32 = 266;
-
-    pub const WIDTH: u32 = 4;
 
     pub const ENTRY: u8 = 4;
 }
@@ -76,8 +69,6 @@ impl ResultCode {
 
     pub const CODE: u32 = 268;
 
-    pub const WIDTH: u32 = 4;
-
     pub const ENTRY: u8 = 5;
 }
 
@@ -87,8 +78,6 @@ impl AuthSessionState {
     pub const VENDOR: u32 = NO_VENDOR;
 
     pub const CODE: u32 = 277;
-
-    pub const WIDTH: u32 = 4;
 
     pub const ENTRY: u8 = 6;
 }
@@ -100,8 +89,6 @@ impl OriginStateId {
 
     pub const CODE: u32 = 278;
 
-    pub const WIDTH: u32 = 4;
-
     pub const ENTRY: u8 = 7;
 }
 
@@ -111,8 +98,6 @@ impl ExperimentalResultCode {
     pub const VENDOR: u32 = NO_VENDOR;
 
     pub const CODE: u32 = 298;
-
-    pub const WIDTH: u32 = 4;
 
     pub const ENTRY: u8 = 8;
 }
@@ -282,8 +267,6 @@ impl RatingGroup {
 
     pub const CODE: u32 = 432;
 
-    pub const WIDTH: u32 = 4;
-
     pub const ENTRY: u8 = 24;
 }
 
@@ -296,8 +279,6 @@ impl CcInputOctets {
 
     pub const CODE: u32 = 412;
 
-    pub const WIDTH: u32 = 8;
-
     pub const ENTRY: u8 = 25;
 }
 
@@ -308,8 +289,6 @@ impl CcOutputOctets {
 
     pub const CODE: u32 = 414;
 
-    pub const WIDTH: u32 = 8;
-
     pub const ENTRY: u8 = 26;
 }
 
@@ -319,8 +298,6 @@ impl CcTotalOctets {
     pub const VENDOR: u32 = NO_VENDOR;
 
     pub const CODE: u32 = 421;
-
-    pub const WIDTH: u32 = 8;
 
     pub const ENTRY: u8 = 27;
 }
@@ -333,8 +310,6 @@ impl Drmp {
     pub const VENDOR: u32 = NO_VENDOR;
 
     pub const CODE: u32 = 301;
-
-    pub const WIDTH: u32 = 4;
 
     pub const ENTRY: u8 = 28;
 }
@@ -380,8 +355,6 @@ impl FeatureListId {
 
     pub const CODE: u32 = 629;
 
-    pub const WIDTH: u32 = 4;
-
     pub const ENTRY: u8 = 32;
 }
 
@@ -391,8 +364,6 @@ impl FeatureList {
     pub const VENDOR: u32 = VENDOR_3GPP;
 
     pub const CODE: u32 = 630;
-
-    pub const WIDTH: u32 = 4;
 
     pub const ENTRY: u8 = 33;
 }
@@ -440,8 +411,6 @@ impl MaxRequestedBandwidthDl {
 
     pub const CODE: u32 = 515;
 
-    pub const WIDTH: u32 = 4;
-
     pub const ENTRY: u8 = 37;
 }
 
@@ -451,8 +420,6 @@ impl MaxRequestedBandwidthUl {
     pub const VENDOR: u32 = VENDOR_3GPP;
 
     pub const CODE: u32 = 516;
-
-    pub const WIDTH: u32 = 4;
 
     pub const ENTRY: u8 = 38;
 }
@@ -464,8 +431,6 @@ impl TransferRequestType {
 
     pub const CODE: u32 = 4203;
 
-    pub const WIDTH: u32 = 4;
-
     pub const ENTRY: u8 = 39;
 }
 
@@ -475,8 +440,6 @@ impl TransferEndTime {
     pub const VENDOR: u32 = VENDOR_3GPP;
 
     pub const CODE: u32 = 4205;
-
-    pub const WIDTH: u32 = 4;
 
     pub const ENTRY: u8 = 40;
 }
@@ -488,8 +451,6 @@ impl TransferStartTime {
 
     pub const CODE: u32 = 4206;
 
-    pub const WIDTH: u32 = 4;
-
     pub const ENTRY: u8 = 41;
 }
 
@@ -500,8 +461,6 @@ impl TransferPolicyId {
 
     pub const CODE: u32 = 4208;
 
-    pub const WIDTH: u32 = 4;
-
     pub const ENTRY: u8 = 42;
 }
 
@@ -511,8 +470,6 @@ impl NumberOfUes {
     pub const VENDOR: u32 = VENDOR_3GPP;
 
     pub const CODE: u32 = 4209;
-
-    pub const WIDTH: u32 = 4;
 
     pub const ENTRY: u8 = 43;
 }

@@ -3,10 +3,12 @@
 ghost use mathlib.Core.Path.{_≡_};
 ghost use mathlib.Core.Bool.{cond};
 ghost use lib.Dec.{eqb};
+ghost use Prim.Native.Nat.{_≤_, _<_};
+ghost use Rattle.rules.specs.Header.{vendor3GPP};
 ghost use Rattle.rules.specs.Verdict.{Answers};
 ghost use Rattle.rules.specs.Dictionary.{find, dictionary, requiresM, isKnown, membersOf, isGroup, fixedWidth, rowsNumber};
 ghost use Rattle.rules.specs.Meaning.{isReadGroup};
-ghost use Rattle.dictionary.specs.Entries.{entryOf, entryWithCode, vendorOf, definitionAt};
+ghost use Rattle.dictionary.specs.Entries.{entryOf, leastNtCode, vendorOf, codeOf, definitionAt, factsOf};
 ghost use Rattle.dictionary.specs.Table.{plainEntry, entryBy, IsTable};
 use rules::Grammar;
 use rules::Members;
@@ -15,66 +17,8 @@ use rules::limits;
 pub mod kinds;
 pub mod plain;
 
-// The entry that has a code; no two have the same one.
-fn entry_with_code(code: u32) -> u8
-    ensures { λ r. ⌜ r ≡ entryWithCode dictionary code ⌝ }
-{
-    match code {
-        kinds::AuthApplicationId::CODE => kinds::AuthApplicationId::ENTRY,
-        kinds::AcctApplicationId::CODE => kinds::AcctApplicationId::ENTRY,
-        kinds::RedirectHostUsage::CODE => kinds::RedirectHostUsage::ENTRY,
-        kinds::RedirectMaxCacheTime::CODE => kinds::RedirectMaxCacheTime::ENTRY,
-        kinds::VendorId::CODE => kinds::VendorId::ENTRY,
-        kinds::ResultCode::CODE => kinds::ResultCode::ENTRY,
-        kinds::AuthSessionState::CODE => kinds::AuthSessionState::ENTRY,
-        kinds::OriginStateId::CODE => kinds::OriginStateId::ENTRY,
-        kinds::ExperimentalResultCode::CODE => kinds::ExperimentalResultCode::ENTRY,
-        kinds::SessionId::CODE => kinds::SessionId::ENTRY,
-        kinds::OriginHost::CODE => kinds::OriginHost::ENTRY,
-        kinds::OriginRealm::CODE => kinds::OriginRealm::ENTRY,
-        kinds::DestinationHost::CODE => kinds::DestinationHost::ENTRY,
-        kinds::DestinationRealm::CODE => kinds::DestinationRealm::ENTRY,
-        kinds::RedirectHost::CODE => kinds::RedirectHost::ENTRY,
-        kinds::ProxyHost::CODE => kinds::ProxyHost::ENTRY,
-        kinds::ProxyState::CODE => kinds::ProxyState::ENTRY,
-        kinds::RouteRecord::CODE => kinds::RouteRecord::ENTRY,
-        kinds::FailedAvp::CODE => kinds::FailedAvp::ENTRY,
-        kinds::ErrorMessage::CODE => kinds::ErrorMessage::ENTRY,
-        kinds::ErrorReportingHost::CODE => kinds::ErrorReportingHost::ENTRY,
-        kinds::VendorSpecificApplicationId::CODE => kinds::VendorSpecificApplicationId::ENTRY,
-        kinds::ExperimentalResult::CODE => kinds::ExperimentalResult::ENTRY,
-        kinds::ProxyInfo::CODE => kinds::ProxyInfo::ENTRY,
-        kinds::RatingGroup::CODE => kinds::RatingGroup::ENTRY,
-        kinds::CcInputOctets::CODE => kinds::CcInputOctets::ENTRY,
-        kinds::CcOutputOctets::CODE => kinds::CcOutputOctets::ENTRY,
-        kinds::CcTotalOctets::CODE => kinds::CcTotalOctets::ENTRY,
-        kinds::Drmp::CODE => kinds::Drmp::ENTRY,
-        kinds::OcSupportedFeatures::CODE => kinds::OcSupportedFeatures::ENTRY,
-        kinds::OcOlr::CODE => kinds::OcOlr::ENTRY,
-        kinds::Load::CODE => kinds::Load::ENTRY,
-        kinds::FeatureListId::CODE => kinds::FeatureListId::ENTRY,
-        kinds::FeatureList::CODE => kinds::FeatureList::ENTRY,
-        kinds::ApplicationServiceProviderIdentity::CODE =>
-            kinds::ApplicationServiceProviderIdentity::ENTRY,
-        kinds::PcrfAddress::CODE => kinds::PcrfAddress::ENTRY,
-        kinds::SupportedFeatures::CODE => kinds::SupportedFeatures::ENTRY,
-        kinds::MaxRequestedBandwidthDl::CODE => kinds::MaxRequestedBandwidthDl::ENTRY,
-        kinds::MaxRequestedBandwidthUl::CODE => kinds::MaxRequestedBandwidthUl::ENTRY,
-        kinds::TransferRequestType::CODE => kinds::TransferRequestType::ENTRY,
-        kinds::TransferEndTime::CODE => kinds::TransferEndTime::ENTRY,
-        kinds::TransferStartTime::CODE => kinds::TransferStartTime::ENTRY,
-        kinds::TransferPolicyId::CODE => kinds::TransferPolicyId::ENTRY,
-        kinds::NumberOfUes::CODE => kinds::NumberOfUes::ENTRY,
-        kinds::NetworkAreaInfoList::CODE => kinds::NetworkAreaInfoList::ENTRY,
-        kinds::ReferenceId::CODE => kinds::ReferenceId::ENTRY,
-        kinds::TimeWindow::CODE => kinds::TimeWindow::ENTRY,
-        kinds::TransferPolicy::CODE => kinds::TransferPolicy::ENTRY,
-        _ => kinds::NO_ENTRY,
-    }
-}
-
 // The Vendor-Id of an entry, none where the number is no entry's.
-fn vendor_of(entry: u8) -> u32
+pub fn vendor_of(entry: u8) -> u32
     ensures { λ r. ⌜ r ≡ vendorOf dictionary entry ⌝ }
 {
     match entry {
@@ -131,15 +75,110 @@ fn vendor_of(entry: u8) -> u32
     }
 }
 
-// The search of the dictionary: the entry of a name.
-fn entry_of(vendor: u32, code: u32) -> u8
-    ensures { λ r. ⌜ r ≡ entryOf dictionary vendor code ⌝ }
+// The AVP code of an entry, 0 where the number is no entry's.
+pub fn code_of(entry: u8) -> u32
+    ensures { λ r. ⌜ r ≡ codeOf dictionary entry ⌝ }
 {
-    let entry = entry_with_code(code);
-    if vendor_of(entry) != vendor {
-        return kinds::NO_ENTRY;
+    match entry {
+        kinds::AuthApplicationId::ENTRY => kinds::AuthApplicationId::CODE,
+        kinds::AcctApplicationId::ENTRY => kinds::AcctApplicationId::CODE,
+        kinds::RedirectHostUsage::ENTRY => kinds::RedirectHostUsage::CODE,
+        kinds::RedirectMaxCacheTime::ENTRY => kinds::RedirectMaxCacheTime::CODE,
+        kinds::VendorId::ENTRY => kinds::VendorId::CODE,
+        kinds::ResultCode::ENTRY => kinds::ResultCode::CODE,
+        kinds::AuthSessionState::ENTRY => kinds::AuthSessionState::CODE,
+        kinds::OriginStateId::ENTRY => kinds::OriginStateId::CODE,
+        kinds::ExperimentalResultCode::ENTRY => kinds::ExperimentalResultCode::CODE,
+        kinds::SessionId::ENTRY => kinds::SessionId::CODE,
+        kinds::OriginHost::ENTRY => kinds::OriginHost::CODE,
+        kinds::OriginRealm::ENTRY => kinds::OriginRealm::CODE,
+        kinds::DestinationHost::ENTRY => kinds::DestinationHost::CODE,
+        kinds::DestinationRealm::ENTRY => kinds::DestinationRealm::CODE,
+        kinds::RedirectHost::ENTRY => kinds::RedirectHost::CODE,
+        kinds::ProxyHost::ENTRY => kinds::ProxyHost::CODE,
+        kinds::ProxyState::ENTRY => kinds::ProxyState::CODE,
+        kinds::RouteRecord::ENTRY => kinds::RouteRecord::CODE,
+        kinds::FailedAvp::ENTRY => kinds::FailedAvp::CODE,
+        kinds::ErrorMessage::ENTRY => kinds::ErrorMessage::CODE,
+        kinds::ErrorReportingHost::ENTRY => kinds::ErrorReportingHost::CODE,
+        kinds::VendorSpecificApplicationId::ENTRY => kinds::VendorSpecificApplicationId::CODE,
+        kinds::ExperimentalResult::ENTRY => kinds::ExperimentalResult::CODE,
+        kinds::ProxyInfo::ENTRY => kinds::ProxyInfo::CODE,
+        kinds::RatingGroup::ENTRY => kinds::RatingGroup::CODE,
+        kinds::CcInputOctets::ENTRY => kinds::CcInputOctets::CODE,
+        kinds::CcOutputOctets::ENTRY => kinds::CcOutputOctets::CODE,
+        kinds::CcTotalOctets::ENTRY => kinds::CcTotalOctets::CODE,
+        kinds::Drmp::ENTRY => kinds::Drmp::CODE,
+        kinds::OcSupportedFeatures::ENTRY => kinds::OcSupportedFeatures::CODE,
+        kinds::OcOlr::ENTRY => kinds::OcOlr::CODE,
+        kinds::Load::ENTRY => kinds::Load::CODE,
+        kinds::FeatureListId::ENTRY => kinds::FeatureListId::CODE,
+        kinds::FeatureList::ENTRY => kinds::FeatureList::CODE,
+        kinds::ApplicationServiceProviderIdentity::ENTRY =>
+            kinds::ApplicationServiceProviderIdentity::CODE,
+        kinds::PcrfAddress::ENTRY => kinds::PcrfAddress::CODE,
+        kinds::SupportedFeatures::ENTRY => kinds::SupportedFeatures::CODE,
+        kinds::MaxRequestedBandwidthDl::ENTRY => kinds::MaxRequestedBandwidthDl::CODE,
+        kinds::MaxRequestedBandwidthUl::ENTRY => kinds::MaxRequestedBandwidthUl::CODE,
+        kinds::TransferRequestType::ENTRY => kinds::TransferRequestType::CODE,
+        kinds::TransferEndTime::ENTRY => kinds::TransferEndTime::CODE,
+        kinds::TransferStartTime::ENTRY => kinds::TransferStartTime::CODE,
+        kinds::TransferPolicyId::ENTRY => kinds::TransferPolicyId::CODE,
+        kinds::NumberOfUes::ENTRY => kinds::NumberOfUes::CODE,
+        kinds::NetworkAreaInfoList::ENTRY => kinds::NetworkAreaInfoList::CODE,
+        kinds::ReferenceId::ENTRY => kinds::ReferenceId::CODE,
+        kinds::TimeWindow::ENTRY => kinds::TimeWindow::CODE,
+        kinds::TransferPolicy::ENTRY => kinds::TransferPolicy::CODE,
+        _ => 0,
     }
-    entry
+}
+
+// The entry of a code that 3GPP has for Nt alone.
+fn entry_of_nt(code: u32) -> u8
+    requires { ⌜ leastNtCode ≤ code ⌝ }
+    ensures { λ r. ⌜ r ≡ entryOf dictionary vendor3GPP code ⌝ }
+{
+    match code {
+        kinds::TransferRequestType::CODE => kinds::TransferRequestType::ENTRY,
+        kinds::TransferEndTime::CODE => kinds::TransferEndTime::ENTRY,
+        kinds::TransferStartTime::CODE => kinds::TransferStartTime::ENTRY,
+        kinds::TransferPolicyId::CODE => kinds::TransferPolicyId::ENTRY,
+        kinds::NumberOfUes::CODE => kinds::NumberOfUes::ENTRY,
+        kinds::NetworkAreaInfoList::CODE => kinds::NetworkAreaInfoList::ENTRY,
+        kinds::ReferenceId::CODE => kinds::ReferenceId::ENTRY,
+        kinds::TimeWindow::CODE => kinds::TimeWindow::ENTRY,
+        kinds::TransferPolicy::CODE => kinds::TransferPolicy::ENTRY,
+        _ => kinds::NO_ENTRY,
+    }
+}
+
+// The entry of a code that 3GPP has for other applications too, which Nt re-uses.
+fn entry_of_reused(code: u32) -> u8
+    requires { ⌜ code < leastNtCode ⌝ }
+    ensures { λ r. ⌜ r ≡ entryOf dictionary vendor3GPP code ⌝ }
+{
+    match code {
+        kinds::FeatureListId::CODE => kinds::FeatureListId::ENTRY,
+        kinds::FeatureList::CODE => kinds::FeatureList::ENTRY,
+        kinds::ApplicationServiceProviderIdentity::CODE =>
+            kinds::ApplicationServiceProviderIdentity::ENTRY,
+        kinds::PcrfAddress::CODE => kinds::PcrfAddress::ENTRY,
+        kinds::SupportedFeatures::CODE => kinds::SupportedFeatures::ENTRY,
+        kinds::MaxRequestedBandwidthDl::CODE => kinds::MaxRequestedBandwidthDl::ENTRY,
+        kinds::MaxRequestedBandwidthUl::CODE => kinds::MaxRequestedBandwidthUl::ENTRY,
+        _ => kinds::NO_ENTRY,
+    }
+}
+
+// The search of the dictionary for a name of 3GPP. The codes for Nt alone are dense, and have a part of their own:
+// compiled, the two parts are faster than one `match`.
+fn entry_of_3gpp(code: u32) -> u8
+    ensures { λ r. ⌜ r ≡ entryOf dictionary vendor3GPP code ⌝ }
+{
+    if kinds::NetworkAreaInfoList::CODE <= code {
+        return entry_of_nt(code);
+    }
+    entry_of_reused(code)
 }
 
 // The table of plain codes. A constant array is built anew where it is named, so the table is made once and lent.
@@ -161,14 +200,13 @@ fn plain_entry(table: &[u8; plain::PLAIN_CODES], code: u32) -> u8
 }
 
 // The entry of a name by a table of plain codes: a name without vendor through the table, another as the search finds
-// it; only 3GPP has entries. By the table above it is always as the search finds it. The search is handed the vendor as
-// a constant, so that the compiled one has no test of it.
+// it; only 3GPP has entries. By the table above it is always as the search finds it.
 pub fn entry_by(table: &[u8; plain::PLAIN_CODES], vendor: u32, code: u32) -> u8
     ensures { λ r. ⌜ r ≡ entryBy (now (table .entry)) vendor code ⌝ }
 {
     match vendor {
         limits::NO_VENDOR => plain_entry(table, code),
-        limits::VENDOR_3GPP => entry_of(limits::VENDOR_3GPP, code),
+        limits::VENDOR_3GPP => entry_of_3gpp(code),
         _ => kinds::NO_ENTRY,
     }
 }
@@ -180,70 +218,118 @@ pub fn is_known(entry: u8) -> bool
     entry < kinds::NO_ENTRY
 }
 
-// Whether M must be set: for all entries but these.
+// The facts of an entry as digits of one number: whether M must be set, whether the data is a group, and its width.
+const M_REQUIRED: u8 = 1;
+
+const GROUP: u8 = 2;
+
+const ONE_OCTET: u8 = 4;
+
+const ANY_LENGTH: u8 = 0;
+
+const FOUR_OCTETS: u8 = 4 * ONE_OCTET;
+
+const M_ANY_LENGTH: u8 = M_REQUIRED + ANY_LENGTH;
+
+const M_GROUP: u8 = M_REQUIRED + GROUP;
+
+const M_FOUR_OCTETS: u8 = M_REQUIRED + FOUR_OCTETS;
+
+const M_EIGHT_OCTETS: u8 = M_REQUIRED + 8 * ONE_OCTET;
+
+// The facts of an entry, none where the number is no entry's. Every entry has an arm: a dense `match` is compiled to
+// masks and tables.
+fn facts(entry: u8) -> u8
+    ensures { λ r. ⌜ r ≡ factsOf (definitionAt dictionary entry) ⌝ }
+{
+    match entry {
+        kinds::AuthApplicationId::ENTRY => M_FOUR_OCTETS,
+        kinds::AcctApplicationId::ENTRY => M_FOUR_OCTETS,
+        kinds::RedirectHostUsage::ENTRY => M_FOUR_OCTETS,
+        kinds::RedirectMaxCacheTime::ENTRY => M_FOUR_OCTETS,
+        kinds::VendorId::ENTRY => M_FOUR_OCTETS,
+        kinds::ResultCode::ENTRY => M_FOUR_OCTETS,
+        kinds::AuthSessionState::ENTRY => M_FOUR_OCTETS,
+        kinds::OriginStateId::ENTRY => M_FOUR_OCTETS,
+        kinds::ExperimentalResultCode::ENTRY => M_FOUR_OCTETS,
+        kinds::SessionId::ENTRY => M_ANY_LENGTH,
+        kinds::OriginHost::ENTRY => M_ANY_LENGTH,
+        kinds::OriginRealm::ENTRY => M_ANY_LENGTH,
+        kinds::DestinationHost::ENTRY => M_ANY_LENGTH,
+        kinds::DestinationRealm::ENTRY => M_ANY_LENGTH,
+        kinds::RedirectHost::ENTRY => M_ANY_LENGTH,
+        kinds::ProxyHost::ENTRY => M_ANY_LENGTH,
+        kinds::ProxyState::ENTRY => M_ANY_LENGTH,
+        kinds::RouteRecord::ENTRY => M_ANY_LENGTH,
+        kinds::FailedAvp::ENTRY => M_ANY_LENGTH,
+        kinds::ErrorMessage::ENTRY => ANY_LENGTH,
+        kinds::ErrorReportingHost::ENTRY => ANY_LENGTH,
+        kinds::VendorSpecificApplicationId::ENTRY => M_GROUP,
+        kinds::ExperimentalResult::ENTRY => M_GROUP,
+        kinds::ProxyInfo::ENTRY => M_GROUP,
+        kinds::RatingGroup::ENTRY => M_FOUR_OCTETS,
+        kinds::CcInputOctets::ENTRY => M_EIGHT_OCTETS,
+        kinds::CcOutputOctets::ENTRY => M_EIGHT_OCTETS,
+        kinds::CcTotalOctets::ENTRY => M_EIGHT_OCTETS,
+        kinds::Drmp::ENTRY => FOUR_OCTETS,
+        kinds::OcSupportedFeatures::ENTRY => ANY_LENGTH,
+        kinds::OcOlr::ENTRY => ANY_LENGTH,
+        kinds::Load::ENTRY => ANY_LENGTH,
+        kinds::FeatureListId::ENTRY => FOUR_OCTETS,
+        kinds::FeatureList::ENTRY => FOUR_OCTETS,
+        kinds::ApplicationServiceProviderIdentity::ENTRY => ANY_LENGTH,
+        kinds::PcrfAddress::ENTRY => ANY_LENGTH,
+        kinds::SupportedFeatures::ENTRY => GROUP,
+        kinds::MaxRequestedBandwidthDl::ENTRY => M_FOUR_OCTETS,
+        kinds::MaxRequestedBandwidthUl::ENTRY => M_FOUR_OCTETS,
+        kinds::TransferRequestType::ENTRY => M_FOUR_OCTETS,
+        kinds::TransferEndTime::ENTRY => M_FOUR_OCTETS,
+        kinds::TransferStartTime::ENTRY => M_FOUR_OCTETS,
+        kinds::TransferPolicyId::ENTRY => M_FOUR_OCTETS,
+        kinds::NumberOfUes::ENTRY => M_FOUR_OCTETS,
+        kinds::NetworkAreaInfoList::ENTRY => M_ANY_LENGTH,
+        kinds::ReferenceId::ENTRY => M_ANY_LENGTH,
+        kinds::TimeWindow::ENTRY => M_GROUP,
+        kinds::TransferPolicy::ENTRY => M_GROUP,
+        _ => ANY_LENGTH,
+    }
+}
+
+// Whether M must be set.
 pub fn requires_m(entry: u8) -> bool
     ensures { λ r. ⌜ r ≡ requiresM (definitionAt dictionary entry) ⌝ }
 {
-    match entry {
-        kinds::ErrorMessage::ENTRY => false,
-        kinds::ErrorReportingHost::ENTRY => false,
-        kinds::Drmp::ENTRY => false,
-        kinds::OcSupportedFeatures::ENTRY => false,
-        kinds::OcOlr::ENTRY => false,
-        kinds::Load::ENTRY => false,
-        kinds::FeatureListId::ENTRY => false,
-        kinds::FeatureList::ENTRY => false,
-        kinds::ApplicationServiceProviderIdentity::ENTRY => false,
-        kinds::PcrfAddress::ENTRY => false,
-        kinds::SupportedFeatures::ENTRY => false,
-        _ => is_known(entry),
-    }
+    facts(entry) % GROUP == M_REQUIRED
 }
 
 // The width of the data where it is fixed, 0 where any length passes.
 pub fn width(entry: u8) -> u32
     ensures { λ r. ⌜ r ≡ fixedWidth (definitionAt dictionary entry) ⌝ }
 {
-    match entry {
-        kinds::AuthApplicationId::ENTRY => kinds::AuthApplicationId::WIDTH,
-        kinds::AcctApplicationId::ENTRY => kinds::AcctApplicationId::WIDTH,
-        kinds::RedirectHostUsage::ENTRY => kinds::RedirectHostUsage::WIDTH,
-        kinds::RedirectMaxCacheTime::ENTRY => kinds::RedirectMaxCacheTime::WIDTH,
-        kinds::VendorId::ENTRY => kinds::VendorId::WIDTH,
-        kinds::ResultCode::ENTRY => kinds::ResultCode::WIDTH,
-        kinds::AuthSessionState::ENTRY => kinds::AuthSessionState::WIDTH,
-        kinds::OriginStateId::ENTRY => kinds::OriginStateId::WIDTH,
-        kinds::ExperimentalResultCode::ENTRY => kinds::ExperimentalResultCode::WIDTH,
-        kinds::RatingGroup::ENTRY => kinds::RatingGroup::WIDTH,
-        kinds::CcInputOctets::ENTRY => kinds::CcInputOctets::WIDTH,
-        kinds::CcOutputOctets::ENTRY => kinds::CcOutputOctets::WIDTH,
-        kinds::CcTotalOctets::ENTRY => kinds::CcTotalOctets::WIDTH,
-        kinds::Drmp::ENTRY => kinds::Drmp::WIDTH,
-        kinds::FeatureListId::ENTRY => kinds::FeatureListId::WIDTH,
-        kinds::FeatureList::ENTRY => kinds::FeatureList::WIDTH,
-        kinds::MaxRequestedBandwidthDl::ENTRY => kinds::MaxRequestedBandwidthDl::WIDTH,
-        kinds::MaxRequestedBandwidthUl::ENTRY => kinds::MaxRequestedBandwidthUl::WIDTH,
-        kinds::TransferRequestType::ENTRY => kinds::TransferRequestType::WIDTH,
-        kinds::TransferEndTime::ENTRY => kinds::TransferEndTime::WIDTH,
-        kinds::TransferStartTime::ENTRY => kinds::TransferStartTime::WIDTH,
-        kinds::TransferPolicyId::ENTRY => kinds::TransferPolicyId::WIDTH,
-        kinds::NumberOfUes::ENTRY => kinds::NumberOfUes::WIDTH,
-        _ => 0,
-    }
+    (facts(entry) / ONE_OCTET) as u32
 }
 
 // Whether the data is read as a list.
 pub fn is_group(entry: u8) -> bool
     ensures { λ r. ⌜ r ≡ isGroup (definitionAt dictionary entry) ⌝ }
 {
+    facts(entry) % ONE_OCTET >= GROUP
+}
+
+// The rows that the members of an entry's group go by.
+pub fn members_of(entry: u8) -> Members
+    ensures { λ r. ⌜ Answers rowsNumber (membersOf (definitionAt dictionary entry)) r ⌝ }
+{
     match entry {
-        kinds::VendorSpecificApplicationId::ENTRY => true,
-        kinds::ExperimentalResult::ENTRY => true,
-        kinds::ProxyInfo::ENTRY => true,
-        kinds::SupportedFeatures::ENTRY => true,
-        kinds::TimeWindow::ENTRY => true,
-        kinds::TransferPolicy::ENTRY => true,
-        _ => false,
+        kinds::VendorSpecificApplicationId::ENTRY => Members::Under(
+            Grammar::VendorSpecificApplicationId,
+        ),
+        kinds::ExperimentalResult::ENTRY => Members::Under(Grammar::ExperimentalResult),
+        kinds::ProxyInfo::ENTRY => Members::Under(Grammar::ProxyInfo),
+        kinds::SupportedFeatures::ENTRY => Members::Under(Grammar::SupportedFeatures),
+        kinds::TimeWindow::ENTRY => Members::Under(Grammar::TimeWindow),
+        kinds::TransferPolicy::ENTRY => Members::Under(Grammar::TransferPolicy),
+        _ => Members::NoMembers,
     }
 }
 

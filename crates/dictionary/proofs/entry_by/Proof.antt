@@ -12,8 +12,8 @@ use Rattle.dictionary.proofs.entry_by.Tie as tie
 plain-entry-requires : tie.Need-plain-entry-requires
 plain-entry-requires c κs = search needs
 
-entry-of-requires : tie.Need-entry-of-requires
-entry-of-requires c κs = search needs
+entry-of-3gpp-requires : tie.Need-entry-of-3gpp-requires
+entry-of-3gpp-requires c κs = search needs
 
 returns : tie.Need-returns
 unfolding entryBy
@@ -21,7 +21,7 @@ returns c = c .plain-entry .ensures ∙ rw (c .before .match .keys1)
 
 returns-2 : tie.Need-returns-2
 unfolding entryBy
-returns-2 c = c .entry-of .ensures ∙ rw (c .before .match .keys2)
+returns-2 c = c .entry-of-3gpp .ensures ∙ rw (c .before .match .keys2)
 
 returns-3 : tie.Need-returns-3
 unfolding entryBy dictionary
@@ -32,4 +32,4 @@ returns-3 c =
 
 pub entry-by-spec : {M : Type 1} → statement M
 entry-by-spec =
-    tie.close (tie.spec plain-entry-requires entry-of-requires returns returns-2 returns-3)
+    tie.close (tie.spec plain-entry-requires entry-of-3gpp-requires returns returns-2 returns-3)

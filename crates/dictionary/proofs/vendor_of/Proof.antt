@@ -4,7 +4,7 @@ use Prim.Native.Nat.{ℕ}
 use Rattle.rules.specs.Dictionary.{dictionary}
 use Rattle.rules.proofs.Names.{answer-at}
 use Rattle.dictionary.specs.Entries.{vendorOf}
-use Rattle.dictionary.proofs.Entries.{other-vendor}
+use Rattle.dictionary.proofs.Entries.{other-entry}
 use Rattle.dictionary.proofs.vendor_of.Statement.{statement}
 use Rattle.dictionary.proofs.vendor_of.Tie as tie
 
@@ -64,4 +64,4 @@ vendor-of-spec =
     (λ c. answer-at says (c .match .keys46) refl refl)
     (λ c. answer-at says (c .match .keys47) refl refl)
     (λ c. answer-at says (c .match .keys48) refl refl)
-    (λ c. other-vendor dictionary _ (c .match .rest)))
+    (λ c. other-entry 0 (λ e. e .vendor) dictionary _ (c .match .rest)))
