@@ -117,7 +117,7 @@ module _ (dict : List Entry) (s : List ℕ) (w : Standing) where
       (λ f. leb-false _ _ f)
 
   -- a plain AVP is the one at its place
-  plain-is : {a : Avp} → checked dict s w ≡ Plain a
+  pub plain-is : {a : Avp} → checked dict s w ≡ Plain a
       → (framing s (w .at) (w .end) ≡ Pass) × (a ≡ avpAt s (w .at) (w .depth))
   plain-is {a} e =
       let n : (v : Verdict) → Plain a ≡ Fault v → ⊥ = λ v f. let z : _≡_ {A = ℕ} 0 1 = cc in omega arith in

@@ -1,6 +1,6 @@
 -- 01, Exchange rules (clause 4.4.1), over the AVPs of the walk: those of a request, those of an answer, and the
--- windows. `end` is the end of the command's own list. The definitions answer for every list of AVPs; where walk or
--- rows have refused a command before, the comment says so.
+-- windows. `find` is the search of the command's own list, and `end` the end of that list. The definitions answer for
+-- every list of AVPs; where walk or rows have refused a command before, the comment says so.
 use Prim.Native.Nat.{ℕ, _+_}
 use mathlib.Core.List.{List, [], _∷_}
 use mathlib.Core.Bool.{Bool, cond}
@@ -25,8 +25,8 @@ present end vendor code (At i) = Pass
 present end vendor code Nothing = refused 5005 end vendor code
 
 -- the command's own list has an AVP
-abbrev pub require : List Avp → ℕ → ℕ → ℕ → Outcome
-require xs end vendor code = present end vendor code (search xs vendor code)
+abbrev pub require : (ℕ → ℕ → Found) → ℕ → ℕ → ℕ → Outcome
+require find end vendor code = present end vendor code (find vendor code)
 
 -- of two searches what the first found, else what the second did
 abbrev pub firstFound : Found → Found → Found
@@ -34,12 +34,12 @@ firstFound (At i) g = At i
 firstFound Nothing g = g
 
 -- the volume of a direction: 412, uplink, or 414, downlink
-unfoldable pub direction : List Avp → Found
-direction xs = firstFound (search xs 0 412) (search xs 0 414)
+unfoldable pub direction : (ℕ → ℕ → Found) → Found
+direction find = firstFound (find 0 412) (find 0 414)
 
 -- one of 414, 412, 421, reported as 414
-unfoldable pub volume : List Avp → ℕ → Outcome
-volume xs end = present end 0 414 (firstFound (search xs 0 421) (direction xs))
+unfoldable pub volume : (ℕ → ℕ → Found) → ℕ → Outcome
+volume find end = present end 0 414 (firstFound (find 0 421) (direction find))
 
 -- where two searches both found an AVP, the first one's is not allowed beside the other's: 5008 at the first one's,
 -- wherever the other stands
@@ -49,36 +49,37 @@ notBeside xs (At i) Nothing = Pass
 notBeside xs Nothing g = Pass
 
 -- request [2]: the total, 421, not beside a direction
-unfoldable pub totalAlone : List Avp → Outcome
-totalAlone xs = notBeside xs (search xs 0 421) (direction xs)
+unfoldable pub totalAlone : (ℕ → ℕ → Found) → List Avp → Outcome
+totalAlone find xs = notBeside xs (find 0 421) (direction find)
 
 -- BTR with 4203 = 0: 532; a volume; the total alone; 4209; 4204
-unfoldable pub firstRequest : List Avp → ℕ → Outcome
-firstRequest xs end =
-    orElse (require xs end vendor3GPP 532)
-    (orElse (volume xs end)
-    (orElse (totalAlone xs)
-    (orElse (require xs end vendor3GPP 4209)
-    (require xs end vendor3GPP 4204))))
+unfoldable pub firstRequest : (ℕ → ℕ → Found) → List Avp → ℕ → Outcome
+firstRequest find xs end =
+    orElse (require find end vendor3GPP 532)
+    (orElse (volume find end)
+    (orElse (totalAlone find xs)
+    (orElse (require find end vendor3GPP 4209)
+    (require find end vendor3GPP 4204))))
 
 -- BTR with 4203 = 1: 4202, 4208, 293
-unfoldable pub laterRequest : List Avp → ℕ → Outcome
-laterRequest xs end =
-    orElse (require xs end vendor3GPP 4202)
-    (orElse (require xs end vendor3GPP 4208)
-    (require xs end 0 293))
+unfoldable pub laterRequest : (ℕ → ℕ → Found) → ℕ → Outcome
+laterRequest find end =
+    orElse (require find end vendor3GPP 4202)
+    (orElse (require find end vendor3GPP 4208)
+    (require find end 0 293))
 
 -- the rules of a request by the value of its 4203; check 6 of the walk has refused any but 0 and 1
-abbrev pub byRequestType : List Avp → ℕ → ℕ → Outcome
-byRequestType xs end type = cond (eqb type 0) (firstRequest xs end) (cond (eqb type 1) (laterRequest xs end) Pass)
+abbrev pub byRequestType : (ℕ → ℕ → Found) → List Avp → ℕ → ℕ → Outcome
+byRequestType find xs end type =
+    cond (eqb type 0) (firstRequest find xs end) (cond (eqb type 1) (laterRequest find end) Pass)
 
 -- by its 4203; the rows have refused a request without one
-abbrev pub requestBy : List Avp → List ℕ → ℕ → Found → Outcome
-requestBy xs s end (At i) = byRequestType xs end (numberAt 4 s (avpIn xs i .start))
-requestBy xs s end Nothing = refused 5005 end vendor3GPP 4203
+abbrev pub requestBy : (ℕ → ℕ → Found) → List Avp → List ℕ → ℕ → Found → Outcome
+requestBy find xs s end (At i) = byRequestType find xs end (numberAt 4 s (avpIn xs i .start))
+requestBy find xs s end Nothing = refused 5005 end vendor3GPP 4203
 
-unfoldable pub requestOutcome : List Avp → List ℕ → ℕ → Outcome
-requestOutcome xs s end = requestBy xs s end (search xs vendor3GPP 4203)
+unfoldable pub requestOutcome : (ℕ → ℕ → Found) → List Avp → List ℕ → ℕ → Outcome
+requestOutcome find xs s end = requestBy find xs s end (find vendor3GPP 4203)
 
 -- BTA, by its 268 and its 297: neither is 5005 for 268, both are 5008 at 297
 abbrev pub resultBy : List Avp → ℕ → Found → Found → Outcome
@@ -87,8 +88,8 @@ resultBy xs end (At i) Nothing = Pass
 resultBy xs end Nothing (At j) = Pass
 resultBy xs end Nothing Nothing = refused 5005 end 0 268
 
-unfoldable pub resultOutcome : List Avp → ℕ → Outcome
-resultOutcome xs end = resultBy xs end (search xs 0 268) (search xs 0 297)
+unfoldable pub resultOutcome : (ℕ → ℕ → Found) → List Avp → ℕ → Outcome
+resultOutcome find xs end = resultBy xs end (find 0 268) (find 0 297)
 
 -- a rule that holds only where a search found an AVP
 abbrev pub ifFound : Found → Outcome → Outcome
@@ -96,14 +97,14 @@ ifFound (At i) o = o
 ifFound Nothing o = Pass
 
 -- with any 4207, the first of which stands at position i: 4202. With two or more, where a second follows: 2207
-abbrev pub policiesBy : List Avp → ℕ → Found → Outcome
-policiesBy xs end (At i) =
-    orElse (require xs end vendor3GPP 4202)
-    (ifFound (firstFrom (i + 1) 0 1 (drop (i + 1) xs) vendor3GPP 4207) (require xs end vendor3GPP 2207))
-policiesBy xs end Nothing = Pass
+abbrev pub policiesBy : (ℕ → ℕ → Found) → List Avp → ℕ → Found → Outcome
+policiesBy find xs end (At i) =
+    orElse (require find end vendor3GPP 4202)
+    (ifFound (firstFrom (i + 1) 0 1 (drop (i + 1) xs) vendor3GPP 4207) (require find end vendor3GPP 2207))
+policiesBy find xs end Nothing = Pass
 
-unfoldable pub policiesOutcome : List Avp → ℕ → Outcome
-policiesOutcome xs end = policiesBy xs end (search xs vendor3GPP 4207)
+unfoldable pub policiesOutcome : (ℕ → ℕ → Found) → List Avp → ℕ → Outcome
+policiesOutcome find xs end = policiesBy find xs end (find vendor3GPP 4207)
 
 -- the 4207 at position i holds an AVP, else 5005 at its own end
 abbrev pub heldBy : List Avp → ℕ → ℕ → ℕ → Outcome
@@ -124,8 +125,9 @@ eachPolicy xs i (a ∷ rest) =
     orElse (policyAt xs i a) (eachPolicy xs (i + 1) rest)
 
 -- BTA: its result, what its policies ask of the command, then each policy
-unfoldable pub answerOutcome : List Avp → ℕ → Outcome
-answerOutcome xs end = orElse (resultOutcome xs end) (orElse (policiesOutcome xs end) (eachPolicy xs 0 xs))
+unfoldable pub answerOutcome : (ℕ → ℕ → Found) → List Avp → ℕ → Outcome
+answerOutcome find xs end =
+    orElse (resultOutcome find xs end) (orElse (policiesOutcome find xs end) (eachPolicy xs 0 xs))
 
 -- a window whose 4206 and 4205 stand at positions i and j: the start is before the end, else 5004 at 4205
 abbrev pub timesBy : List Avp → List ℕ → ℕ → ℕ → Outcome
@@ -157,10 +159,13 @@ eachWindow xs s i (a ∷ rest) =
     orElse (windowAt xs s i a) (eachWindow xs s (i + 1) rest)
 
 -- the rules of a request or of an answer
-abbrev pub byCommand : Bool → List Avp → List ℕ → ℕ → Outcome
-byCommand request xs s end = cond request (requestOutcome xs s end) (answerOutcome xs end)
+abbrev pub byCommand : (ℕ → ℕ → Found) → Bool → List Avp → List ℕ → ℕ → Outcome
+byCommand find request xs s end = cond request (requestOutcome find xs s end) (answerOutcome find xs end)
 
 -- those rules, then the windows
-unfoldable pub exchangeOutcome : Bool → List Avp → List ℕ → ℕ → Outcome
-exchangeOutcome request xs s end =
-    orElse (byCommand request xs s end) (eachWindow xs s 0 xs)
+unfoldable pub exchangeBy : (ℕ → ℕ → Found) → Bool → List Avp → List ℕ → ℕ → Outcome
+exchangeBy find request xs s end = orElse (byCommand find request xs s end) (eachWindow xs s 0 xs)
+
+-- by the search that 01 defines: the first AVP at depth 1 with a vendor and code
+abbrev pub exchangeOutcome : Bool → List Avp → List ℕ → ℕ → Outcome
+exchangeOutcome request xs s end = exchangeBy (search xs) request xs s end

@@ -16,6 +16,7 @@ use Rattle.rules.specs.Header.{headerOutcome, commandFlags, isRequest, l
 use Rattle.rules.specs.Dictionary.{dictionary}
 use Rattle.rules.specs.Walk.{whole, stopped}
 use Rattle.rules.specs.RowChecks.{listOutcome, groupsOutcome}
+use Rattle.rules.specs.Search.{search}
 use Rattle.rules.specs.Exchange.{byCommand, eachWindow}
 use Rattle.rules.specs.Command.{commandGrammar, walkOf, commandVerdict}
 use Rattle.rules.specs.Draft.{Draft, isWellFormed}
@@ -52,7 +53,7 @@ abbrev pub groupRows : List ℕ → List Avp → Outcome
 groupRows c xs = groupsOutcome dictionary xs
 
 abbrev pub exchange : List ℕ → List Avp → Outcome
-exchange c xs = byCommand (isRequest (commandFlags c)) xs c (length c)
+exchange c xs = byCommand (search xs) (isRequest (commandFlags c)) xs c (length c)
 
 abbrev pub windows : List ℕ → List Avp → Outcome
 windows c xs = eachWindow xs c 0 xs

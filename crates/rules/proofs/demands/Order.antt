@@ -15,7 +15,7 @@ use Rattle.rules.specs.Verdict.{writerOnlyNumbers, isAmong, refused, orE
 use Rattle.rules.specs.Header.{headerOutcome, longestCommand}
 use Rattle.rules.specs.Walk.{Walked, whole, stopped}
 use Rattle.rules.specs.RowChecks.{rowsOutcome}
-use Rattle.rules.specs.Exchange.{exchangeOutcome}
+use Rattle.rules.specs.Exchange.{exchangeBy}
 use Rattle.rules.specs.Command.{walkOf, listsOutcome, walkedOutcome, commandOutcome, commandVerdict}
 use Rattle.rules.specs.Draft.{Draft, isWellFormed}
 use Rattle.rules.specs.Writer.{draftOctets, ownOutcome, draftOutcome, octetsWritten, writing}
@@ -41,7 +41,7 @@ module _ (c : List ℕ) where
 
     module _ (xs : List Avp) (walked : walkOf c ≡ whole xs) where
       by-lists : commandVerdict c ≡ verdictOf (orElse (orElse (ownRows c xs) (groupRows c xs)) (orElse (exchange c xs) (windows c xs)))
-      unfolding listsOutcome rowsOutcome exchangeOutcome
+      unfolding listsOutcome rowsOutcome exchangeBy
       by-lists = by-walk (whole xs) walked
 
       list-faults : FirstListFault c xs

@@ -35,18 +35,18 @@ module _ (xs : List Avp) where
   found : {vendor code : ℕ} (h : Has xs vendor code) → searched xs vendor code ≡ At (h .0)
   found h = search-first xs _ _ (h .0) .1 (h .1)
 
-  required : {vendor code : ℕ} (end : ℕ) → Has xs vendor code → require xs end vendor code ≡ Pass
+  required : {vendor code : ℕ} (end : ℕ) → Has xs vendor code → require (searched xs) end vendor code ≡ Pass
   required end h = rw (found h)
 
   either-found : (f : Found) (i : ℕ) → (j : ℕ) × (firstFound f (At i) ≡ At j)
   either-found (At j) i = (j, refl)
   either-found Nothing i = (i, refl)
 
-  directed : HasDirection xs → (j : ℕ) × (direction xs ≡ At j)
+  directed : HasDirection xs → (j : ℕ) × (direction (searched xs) ≡ At j)
   unfolding direction
   directed = ⊎-elim (λ h. (h .0, rw (found h))) (λ h. rw (found h) (either-found (searched xs 0 412) (h .0)))
 
-  volumed : (end : ℕ) → (Has xs 0 421) ⊎ (HasDirection xs) → volume xs end ≡ Pass
+  volumed : (end : ℕ) → (Has xs 0 421) ⊎ (HasDirection xs) → volume (searched xs) end ≡ Pass
   unfolding volume
   volumed end =
       ⊎-elim
@@ -58,7 +58,7 @@ module _ (xs : List Avp) where
 
   -- ---- the rule
 
-  beside : (i : ℕ) → FirstAvp xs 0 421 i → HasDirection xs → totalAlone xs ≡ memberFault 5008 (avpIn xs i)
+  beside : (i : ℕ) → FirstAvp xs 0 421 i → HasDirection xs → totalAlone (searched xs) xs ≡ memberFault 5008 (avpIn xs i)
   unfolding totalAlone
   beside i t h = rw (found (i, t), directed h .1)
 
@@ -66,7 +66,7 @@ module _ (xs : List Avp) where
   none-beside (At i) = refl
   none-beside Nothing = refl
 
-  alone : StandsAlone xs → totalAlone xs ≡ Pass
+  alone : StandsAlone xs → totalAlone (searched xs) xs ≡ Pass
   unfolding totalAlone direction
   alone =
       ⊎-elim
@@ -76,12 +76,12 @@ module _ (xs : List Avp) where
   -- ---- in its place
 
   module _ (c : List ℕ) where
-    by-type : (value : ℕ) → RequestOfType c xs value → exchange c xs ≡ byRequestType xs (length c) value
+    by-type : (value : ℕ) → RequestOfType c xs value → exchange c xs ≡ byRequestType (searched xs) xs (length c) value
     unfolding requestOutcome
     by-type value r = rw (r .request, found (r .position, r .typed), r .valued)
 
     module _ (i : ℕ) (b : TotalBeside c xs i) where
-      first-refused : firstRequest xs (length c) ≡ memberFault 5008 (avpIn xs i)
+      first-refused : firstRequest (searched xs) xs (length c) ≡ memberFault 5008 (avpIn xs i)
       unfolding firstRequest
       first-refused =
           let end = length c in

@@ -25,7 +25,7 @@ use Rattle.rules.specs.Walk.{whole}
 use Rattle.rules.specs.RowChecks.{rowsOutcome}
 use Rattle.rules.specs.Search.{blank, avpIn, member}
 use Rattle.rules.specs.Times.{isBefore}
-use Rattle.rules.specs.Exchange.{timesBy, windowBy, windowOutcome, windowAt, eachWindow, exchangeOutcome}
+use Rattle.rules.specs.Exchange.{timesBy, windowBy, windowOutcome, windowAt, eachWindow, exchangeBy}
 use Rattle.rules.specs.Command.{commandGrammar, walkOf, listsOutcome, commandVerdict}
 use Rattle.rules.specs.Demands.{AcceptedCommand}
 use Rattle.rules.specs.Order.{ownRows, groupRows, exchange, windows}
@@ -190,7 +190,7 @@ module _ (c : List ℕ) (xs : List Avp) (h : headerOutcome c ≡ Pass) (w : walk
 -- Carried by demand-2-accepted, passed-command (rules/proofs/Commands), member-first (Found) and request-5-right.
 -- Ruled out: a reader that lets a window without an end pass; one that judges the windows of requests alone.
 pub request-5-only : (c : List ℕ) → AcceptedCommand c → (xs : List Avp) × (walkOf c ≡ whole xs) × AllRight c xs
-unfolding listsOutcome exchangeOutcome
+unfolding listsOutcome exchangeBy
 request-5-only c a =
     let p = passed-command c (demand-2-accepted c .0 a) in
     let xs = p .avps in

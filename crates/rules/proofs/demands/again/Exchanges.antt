@@ -15,7 +15,7 @@ use Rattle.rules.specs.declared.Found.the-variants.{At, Nothing}
 use Rattle.rules.specs.Octets.{numberAt}
 use Rattle.rules.specs.Avp.{named, endOf}
 use Rattle.rules.specs.Search.{blank, avpIn, isAt, firstFrom, search, member}
-use Rattle.rules.specs.Exchange.{byRequestType, requestBy, requestOutcome, windowBy, windowOutcome, eachWindow, exchangeOutcome}
+use Rattle.rules.specs.Exchange.{byRequestType, requestBy, requestOutcome, windowBy, windowOutcome, eachWindow, exchangeBy, exchangeOutcome}
 use Rattle.rules.proofs.Tests.{and-true}
 use Rattle.rules.proofs.Searches.{first-above, first-here, first-later, first-none}
 use Rattle.rules.proofs.Walk.{by-cases}
@@ -59,11 +59,11 @@ module _ (xs : List Avp) (s t : List ℕ) where
         let q : i + (j - i) ≡ j = omega (arith, n .0) in
         h j (rw (getD-drop i xs (j - i) blank, q) at (n .1))
 
-    request-by : (end : ℕ) (f : Found) → search xs 10415 4203 ≡ f → requestBy xs s end f ≡ requestBy xs t end f
-    request-by end (At i) e = ap (byRequestType xs end) (found-number 4203 0 0 1 i types e)
+    request-by : (end : ℕ) (f : Found) → search xs 10415 4203 ≡ f → requestBy (search xs) xs s end f ≡ requestBy (search xs) xs t end f
+    request-by end (At i) e = ap (byRequestType (search xs) xs end) (found-number 4203 0 0 1 i types e)
     request-by end Nothing e = refl
 
-    request-same : (end : ℕ) → requestOutcome xs s end ≡ requestOutcome xs t end
+    request-same : (end : ℕ) → requestOutcome (search xs) xs s end ≡ requestOutcome (search xs) xs t end
     unfolding requestOutcome
     request-same end = request-by end (search xs 10415 4203) refl
 
@@ -89,6 +89,6 @@ module _ (xs : List Avp) (s t : List ℕ) where
         (λ h. rw (h, windows-same (i + 1) rest))
 
     pub exchange-same : (request : Bool) (end : ℕ) → exchangeOutcome request xs s end ≡ exchangeOutcome request xs t end
-    unfolding exchangeOutcome
+    unfolding exchangeBy
     exchange-same true end = rw (request-same end, windows-same 0 xs)
     exchange-same false end = rw (windows-same 0 xs)

@@ -23,8 +23,8 @@ use Rattle.rules.specs.Avp.{endOf, named}
 use Rattle.rules.specs.Dictionary.{Entry, defined, membersOf}
 use Rattle.rules.specs.Rows.{Row, rowsOf, admitsOthers}
 use Rattle.rules.specs.RowChecks.{admission, noneMet, counted, byMark, byAdmission, memberOutcome, missingFrom, membersOutcome, membersAt, groupOutcome, groupsOutcome, listOutcome, rowsOutcome}
-use Rattle.rules.specs.Search.{avpIn, isAt, member}
-use Rattle.rules.specs.Exchange.{present, volume, notBeside, totalAlone, firstRequest, laterRequest, requestBy, requestOutcome, resultBy, resultOutcome, ifFound, policiesBy, policiesOutcome, policyOutcome, policyAt, eachPolicy, answerOutcome, windowBy, windowOutcome, windowAt, eachWindow, byCommand, exchangeOutcome}
+use Rattle.rules.specs.Search.{avpIn, isAt, search as searched, member}
+use Rattle.rules.specs.Exchange.{present, volume, notBeside, totalAlone, firstRequest, laterRequest, requestBy, requestOutcome, resultBy, resultOutcome, ifFound, policiesBy, policiesOutcome, policyOutcome, policyAt, eachPolicy, answerOutcome, windowBy, windowOutcome, windowAt, eachWindow, byCommand, exchangeBy, exchangeOutcome}
 use Rattle.rules.proofs.demands.numbering.Refusals.{meets, AvpRefusals, pass-meets, either, both, in-turn}
 
 -- the command's list, then each group
@@ -96,9 +96,9 @@ module _ (t : Verdict → Bool) (r : AvpRefusals t) where
   present-meets end vendor code (At i) = refl
   present-meets end vendor code Nothing = r .missing _ _ _
 
-  volume-meets : (xs : List Avp) (end : ℕ) → meets t (volume xs end) ≡ true
+  volume-meets : (find : ℕ → ℕ → Found) (end : ℕ) → meets t (volume find end) ≡ true
   unfolding volume
-  volume-meets xs end = search present-meets
+  volume-meets find end = search present-meets
 
   beside-meets : (xs : List Avp) (f g : Found) → meets t (notBeside xs f g) ≡ true
   unfolding meets
@@ -106,29 +106,29 @@ module _ (t : Verdict → Bool) (r : AvpRefusals t) where
   beside-meets xs (At i) Nothing = refl
   beside-meets xs Nothing g = refl
 
-  total-meets : (xs : List Avp) → meets t (totalAlone xs) ≡ true
+  total-meets : (find : ℕ → ℕ → Found) (xs : List Avp) → meets t (totalAlone find xs) ≡ true
   unfolding totalAlone
-  total-meets xs = search beside-meets
+  total-meets find xs = search beside-meets
 
   -- the rules of a request, in any order
   ruleset of-request = (in-turn, present-meets, volume-meets, total-meets)
 
-  first-meets : (xs : List Avp) (end : ℕ) → meets t (firstRequest xs end) ≡ true
+  first-meets : (find : ℕ → ℕ → Found) (xs : List Avp) (end : ℕ) → meets t (firstRequest find xs end) ≡ true
   unfolding firstRequest
-  first-meets xs end = search of-request
+  first-meets find xs end = search of-request
 
-  later-meets : (xs : List Avp) (end : ℕ) → meets t (laterRequest xs end) ≡ true
+  later-meets : (find : ℕ → ℕ → Found) (end : ℕ) → meets t (laterRequest find end) ≡ true
   unfolding laterRequest
-  later-meets xs end = search of-request
+  later-meets find end = search of-request
 
-  request-by : (xs : List Avp) (s : List ℕ) (end : ℕ) (f : Found) → meets t (requestBy xs s end f) ≡ true
+  request-by : (find : ℕ → ℕ → Found) (xs : List Avp) (s : List ℕ) (end : ℕ) (f : Found) → meets t (requestBy find xs s end f) ≡ true
   unfolding meets
-  request-by xs s end (At i) = simp (either t, both, first-meets, later-meets)
-  request-by xs s end Nothing = r .missing _ _ _
+  request-by find xs s end (At i) = simp (either t, both, first-meets, later-meets)
+  request-by find xs s end Nothing = r .missing _ _ _
 
-  request-meets : (xs : List Avp) (s : List ℕ) (end : ℕ) → meets t (requestOutcome xs s end) ≡ true
+  request-meets : (find : ℕ → ℕ → Found) (xs : List Avp) (s : List ℕ) (end : ℕ) → meets t (requestOutcome find xs s end) ≡ true
   unfolding requestOutcome
-  request-meets xs s end = search request-by
+  request-meets find xs s end = search request-by
 
   result-by : (xs : List Avp) (end : ℕ) (f g : Found) → meets t (resultBy xs end f g) ≡ true
   unfolding meets
@@ -137,22 +137,22 @@ module _ (t : Verdict → Bool) (r : AvpRefusals t) where
   result-by xs end Nothing (At j) = refl
   result-by xs end Nothing Nothing = r .missing _ _ _
 
-  result-meets : (xs : List Avp) (end : ℕ) → meets t (resultOutcome xs end) ≡ true
+  result-meets : (find : ℕ → ℕ → Found) (xs : List Avp) (end : ℕ) → meets t (resultOutcome find xs end) ≡ true
   unfolding resultOutcome
-  result-meets xs end = search result-by
+  result-meets find xs end = search result-by
 
   found-meets : (f : Found) (o : Outcome) → meets t o ≡ true → meets t (ifFound f o) ≡ true
   unfolding meets
   found-meets (At i) o h = h
   found-meets Nothing o h = refl
 
-  policies-by : (xs : List Avp) (end : ℕ) (f : Found) → meets t (policiesBy xs end f) ≡ true
-  policies-by xs end (At i) = search (in-turn, present-meets, found-meets)
-  policies-by xs end Nothing = pass-meets t
+  policies-by : (find : ℕ → ℕ → Found) (xs : List Avp) (end : ℕ) (f : Found) → meets t (policiesBy find xs end f) ≡ true
+  policies-by find xs end (At i) = search (in-turn, present-meets, found-meets)
+  policies-by find xs end Nothing = pass-meets t
 
-  policies-meets : (xs : List Avp) (end : ℕ) → meets t (policiesOutcome xs end) ≡ true
+  policies-meets : (find : ℕ → ℕ → Found) (xs : List Avp) (end : ℕ) → meets t (policiesOutcome find xs end) ≡ true
   unfolding policiesOutcome
-  policies-meets xs end = search policies-by
+  policies-meets find xs end = search policies-by
 
   policy-meets : (xs : List Avp) (i : ℕ) → meets t (policyOutcome xs i) ≡ true
   unfolding policyOutcome
@@ -170,10 +170,10 @@ module _ (t : Verdict → Bool) (r : AvpRefusals t) where
       in-turn t (policyAt xs i a) _ (where-meets (isAt a 1 10415 4207) (policyOutcome xs i) (policy-meets xs i))
       (each-policy-meets xs (i + 1) rest)
 
-  answer-meets : (xs : List Avp) (end : ℕ) → meets t (answerOutcome xs end) ≡ true
+  answer-meets : (find : ℕ → ℕ → Found) (xs : List Avp) (end : ℕ) → meets t (answerOutcome find xs end) ≡ true
   unfolding answerOutcome
-  answer-meets xs end =
-      in-turn t _ _ (result-meets xs end) (in-turn t _ _ (policies-meets xs end) (each-policy-meets xs 0 xs))
+  answer-meets find xs end =
+      in-turn t _ _ (result-meets find xs end) (in-turn t _ _ (policies-meets find xs end) (each-policy-meets xs 0 xs))
 
   window-by : (xs : List Avp) (s : List ℕ) (end : ℕ) (f g : Found) → meets t (windowBy xs s end f g) ≡ true
   unfolding meets
@@ -196,12 +196,13 @@ module _ (t : Verdict → Bool) (r : AvpRefusals t) where
       in-turn t (windowAt xs s i a) _ (where-meets (named a 10415 4204) w (window-meets xs s i (a .depth + 1)))
       (each-window-meets xs s (i + 1) rest)
 
-  by-command : (request : Bool) (xs : List Avp) (s : List ℕ) (end : ℕ) → meets t (byCommand request xs s end) ≡ true
-  by-command true xs s end = request-meets xs s end
-  by-command false xs s end = answer-meets xs end
+  by-command : (find : ℕ → ℕ → Found) (request : Bool) (xs : List Avp) (s : List ℕ) (end : ℕ)
+      → meets t (byCommand find request xs s end) ≡ true
+  by-command find true xs s end = request-meets find xs s end
+  by-command find false xs s end = answer-meets find xs end
 
   pub exchange-meets : (request : Bool) (xs : List Avp) (s : List ℕ) (end : ℕ)
       → meets t (exchangeOutcome request xs s end) ≡ true
-  unfolding exchangeOutcome
+  unfolding exchangeBy
   exchange-meets request xs s end =
-      in-turn t (byCommand request xs s end) _ (by-command request xs s end) (each-window-meets xs s 0 xs)
+      in-turn t (byCommand (searched xs) request xs s end) _ (by-command (searched xs) request xs s end) (each-window-meets xs s 0 xs)
