@@ -1,2 +1,6 @@
--- The laws of a log; Log has what other crates cite.
+-- The laws of a log, of what was put into one, of families of AVPs, and of lists with their members. Other crates cite
+-- them.
 pub mod Log
+pub mod Kept
+pub mod Families
+pub mod Forests

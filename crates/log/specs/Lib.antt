@@ -1,2 +1,3 @@
--- What a log holds.
+-- What a log holds, and families of AVPs.
 pub mod Log
+pub mod Families

@@ -1,11 +1,11 @@
-// The log that a walk is written into: seven numbers for each AVP in an array that the caller lends. The walk, the rows
+// The log that a walk is written into: nine numbers for each AVP in an array that the caller lends. The walk, the rows
 // and the exchange rules work on it, so that no record is copied from one AVP to the next.
 ghost use mathlib.Core.Path.{_≡_};
 ghost use Prim.Native.Nat.{_-_, min};
 ghost use lib.ListN.{length};
 ghost use Rattle.rules.specs.Avp.{endOf, named};
 ghost use Rattle.rules.specs.Walk.{mostAvps};
-ghost use Rattle.log.specs.Log.{logNumbers, bit, putAvp, avpOf};
+ghost use Rattle.log.specs.Log.{logNumbers, bit, putAvp, putFamily, avpOf, entryAt, afterAt};
 use rules::Avp;
 use rules::limits;
 
@@ -53,8 +53,8 @@ pub fn used(count: usize) -> usize
     count
 }
 
-// Keeps an AVP at a position. A position from 256 on, or data whose end does not fit four octets, leaves the log as it
-// was.
+// Keeps an AVP at a position; `put_family` keeps the rest of what stands there. A position from 256 on, or data whose
+// end does not fit four octets, leaves the log as it was.
 pub fn put(log: &mut [u32; limits::LOG_NUMBERS], position: usize, a: Avp)
     ensures { λ _. ⌜ now (log .exit) ≡ putAvp (now (log .entry)) position a ⌝ }
 {
@@ -64,7 +64,7 @@ pub fn put(log: &mut [u32; limits::LOG_NUMBERS], position: usize, a: Avp)
     if 4294967295 - a.length < a.start {
         return;
     }
-    let at = position * limits::AVP_NUMBERS;
+    let at = position * limits::LOGGED_NUMBERS;
     log[at] = a.depth;
     log[at + 1] = a.vendor;
     log[at + 2] = a.code;
@@ -74,6 +74,22 @@ pub fn put(log: &mut [u32; limits::LOG_NUMBERS], position: usize, a: Avp)
     log[at + 6] = a.start + a.length;
 }
 
+// Keeps of the AVP at a position the number of its entry, and the position after its last descendant. A position from
+// 256 on, or one after it above 256, leaves the log as it was.
+pub fn put_family(log: &mut [u32; limits::LOG_NUMBERS], position: usize, entry: u8, after: usize)
+    ensures { λ _. ⌜ now (log .exit) ≡ putFamily (now (log .entry)) position entry after ⌝ }
+{
+    if limits::MOST_AVPS <= position {
+        return;
+    }
+    if limits::MOST_AVPS < after {
+        return;
+    }
+    let at = position * limits::LOGGED_NUMBERS;
+    log[at + 7] = entry as u32;
+    log[at + 8] = after as u32;
+}
+
 // The AVP at a position, the blank one from 256 on.
 pub fn get(log: &[u32; limits::LOG_NUMBERS], position: usize) -> Avp
     ensures { λ r. ⌜ r ≡ avpOf (now (log .entry)) position ⌝ }
@@ -81,7 +97,7 @@ pub fn get(log: &[u32; limits::LOG_NUMBERS], position: usize) -> Avp
     if limits::MOST_AVPS <= position {
         return avp::blank();
     }
-    let at = position * limits::AVP_NUMBERS;
+    let at = position * limits::LOGGED_NUMBERS;
     Avp {
         depth: log[at],
         vendor: log[at + 1],
@@ -100,7 +116,7 @@ pub fn data_end(log: &[u32; limits::LOG_NUMBERS], position: usize) -> u32
     if limits::MOST_AVPS <= position {
         return 0;
     }
-    let at = position * limits::AVP_NUMBERS;
+    let at = position * limits::LOGGED_NUMBERS;
     let start = log[at + 5];
     let end = log[at + 6];
     if end < start {
@@ -116,7 +132,7 @@ pub fn depth_at(log: &[u32; limits::LOG_NUMBERS], position: usize) -> u32
     if limits::MOST_AVPS <= position {
         return 0;
     }
-    log[position * limits::AVP_NUMBERS]
+    log[position * limits::LOGGED_NUMBERS]
 }
 
 // Whether the AVP at a position has a vendor and code. A search asks this first, and reads no more of an AVP of another
@@ -127,6 +143,41 @@ pub fn is_named(log: &[u32; limits::LOG_NUMBERS], position: usize, vendor: u32, 
     if limits::MOST_AVPS <= position {
         return avp::is_named(avp::blank(), vendor, code);
     }
-    let at = position * limits::AVP_NUMBERS;
+    let at = position * limits::LOGGED_NUMBERS;
     avp::is_same_name(log[at + 1], log[at + 2], vendor, code)
+}
+
+// The number of the entry of the AVP at a position, 255 where there is none or it is above 255.
+pub fn entry_at(log: &[u32; limits::LOG_NUMBERS], position: usize) -> u8
+    ensures { λ r. ⌜ r ≡ entryAt (now (log .entry)) position ⌝ }
+{
+    if limits::MOST_AVPS <= position {
+        return 255;
+    }
+    let number = log[position * limits::LOGGED_NUMBERS + 7];
+    if 255 < number {
+        return 255;
+    }
+    number as u8
+}
+
+// A number of four octets as a position.
+fn position_of(number: u32) -> usize
+    ensures { λ r. ⌜ r ≡ number ⌝ }
+{
+    number as usize
+}
+
+// The position after the last descendant of the AVP at a position, at least the next one; 256 from 256 on.
+pub fn after_at(log: &[u32; limits::LOG_NUMBERS], position: usize) -> usize
+    ensures { λ r. ⌜ r ≡ afterAt (now (log .entry)) position ⌝ }
+{
+    if limits::MOST_AVPS <= position {
+        return limits::MOST_AVPS;
+    }
+    let after = position_of(log[position * limits::LOGGED_NUMBERS + 8]);
+    if after <= position {
+        return position + 1;
+    }
+    after
 }

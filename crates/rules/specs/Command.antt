@@ -43,12 +43,9 @@ abbrev pub walkedOutcome : List ℕ → Walked → Outcome
 walkedOutcome s (whole xs) = listsOutcome s xs
 walkedOutcome s (stopped xs v) = Refused v
 
--- header, walk, rows, exchange rules, windows, where the walk ends like this
-abbrev pub outcomeAfter : List ℕ → Walked → Outcome
-outcomeAfter s w = orElse (headerOutcome s) (walkedOutcome s w)
-
+-- header, walk, rows, exchange rules, windows
 unfoldable pub commandOutcome : List ℕ → Outcome
-commandOutcome s = outcomeAfter s (walkOf s)
+commandOutcome s = orElse (headerOutcome s) (walkedOutcome s (walkOf s))
 
 -- the one answer to a slice of octets
 unfoldable pub commandVerdict : List ℕ → Verdict

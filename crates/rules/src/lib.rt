@@ -108,12 +108,6 @@ pub enum Admission {
     NoRow,
 }
 
-// A row that must be met, by its position among the rows; or there is no further one.
-pub enum Required {
-    Next { row: usize, vendor: u32, code: u32 },
-    NoMore,
-}
-
 // What the walk's checks say of an AVP: the fault, an AVP that holds no list, or a group whose data is read as a list.
 pub enum Checked {
     Fault(Verdict),

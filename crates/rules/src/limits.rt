@@ -22,12 +22,14 @@ pub const AVP_HEADER_SIZE: usize = 8;
 pub const AVP_HEADER_SIZE_WITH_VENDOR: usize = 12;
 
 // The numbers that the log keeps of an AVP, and those of a whole log.
-pub const AVP_NUMBERS: usize = 7;
+pub const LOGGED_NUMBERS: usize = 9;
 
-pub const LOG_NUMBERS: usize = 1792;
+pub const LOG_NUMBERS: usize = 2304;
 
 // The numbers that a record has at the boundary: seven of the command, then seven of each place.
 pub const HEAD_NUMBERS: usize = 7;
+
+pub const AVP_NUMBERS: usize = 7;
 
 pub const RECORD_NUMBERS: usize = 1799;
 

@@ -13,19 +13,21 @@ use Rattle.rules.specs.declared.Avp.{Avp}
 use Rattle.rules.specs.declared.Verdict.{Verdict}
 use Rattle.rules.specs.declared.Outcome.{Outcome}
 use Rattle.rules.specs.declared.Outcome.the-variants.{Pass, Refused}
-use Rattle.rules.specs.declared.Checked.the-variants.{Fault}
+use Rattle.rules.specs.declared.Checked.{Checked}
+use Rattle.rules.specs.declared.Checked.the-variants.{Fault, Plain, Group}
 use Rattle.rules.specs.Octets.{numberAt, padded}
 use Rattle.rules.specs.Verdict.{verdict, refuseIf}
 use Rattle.rules.specs.Avp.{codeAt, flagsAt, flagV, lengthAt, headerOf, avpAt}
 use Rattle.rules.specs.Dictionary.{Entry}
-use Rattle.rules.specs.Walk.{Standing, mostAvps, framing, checkedAvp, checked}
+use Rattle.rules.specs.Walk.{Standing, mostAvps, framing, settled, checkedAvp, checked}
 use Rattle.rules.proofs.Octets.{numberAt-part}
 use Rattle.rules.proofs.Fields.{avpAt-by}
 use Rattle.rules.proofs.Passed.{Framed, framed}
 use Rattle.rules.proofs.Walk.{by-cases, framing-left, framing-vendor-left, framing-by, checked-frame, checked-on}
+use Rattle.walk.specs.declared.check.Met.the-variants.{Faulty, Basic, Grouped}
 use Rattle.walk.specs.declared.frame.Frame.{Frame}
 use Rattle.walk.specs.declared.frame.Frame.the-variants.{Holds, Broken}
-use Rattle.walk.specs.Promise.{InList, frameOf, misfit, avpBy}
+use Rattle.walk.specs.Promise.{InList, metWith, metBy, frameOf, misfit, avpBy}
 
 -- ---- the length field
 
@@ -66,6 +68,30 @@ module _ (s : List ℕ) (w : Standing) where
     pub broken-checked : {v : Verdict} → Broken v ≡ frameHere → checked dict s w ≡ Fault v
     broken-checked {v} e =
         checked-frame dict s w few (broken-is (framing s (w .at) (w .end)) v (avpAt s (w .at) (w .depth)) e)
+
+-- ---- what the checks give, with the number of the entry
+
+pub met-with : (entry : ℕ → ℕ → ℕ) (o : Outcome) (b : Bool) (a : Avp) (n : ℕ) → n ≡ entry (a .vendor) (a .code)
+    → metWith n (settled o (cond b (Group a) (Plain a))) ≡ metBy entry (settled o (cond b (Group a) (Plain a)))
+met-with entry Pass true a n e = ap (Grouped a) e
+met-with entry Pass false a n e = ap (Basic a) e
+met-with entry (Refused v) b a n e = refl
+
+module _ (entry : ℕ → ℕ → ℕ) where
+  pub met-faulty : (c : Checked) (v : Verdict) → Faulty v ≡ metBy entry c → c ≡ Fault v
+  met-faulty (Fault u) v e = cc
+  met-faulty (Plain a) v e = let z : _≡_ {A = ℕ} 0 1 = cc in absurd (omega arith)
+  met-faulty (Group a) v e = let z : _≡_ {A = ℕ} 0 1 = cc in absurd (omega arith)
+
+  pub met-basic : (c : Checked) (a : Avp) (n : ℕ) → Basic a n ≡ metBy entry c → (c ≡ Plain a) × (n ≡ entry (a .vendor) (a .code))
+  met-basic (Fault v) a n e = let z : _≡_ {A = ℕ} 0 1 = cc in absurd (omega arith)
+  met-basic (Plain b) a n e = (cc, cc)
+  met-basic (Group b) a n e = let z : _≡_ {A = ℕ} 0 1 = cc in absurd (omega arith)
+
+  pub met-grouped : (c : Checked) (a : Avp) (n : ℕ) → Grouped a n ≡ metBy entry c → (c ≡ Group a) × (n ≡ entry (a .vendor) (a .code))
+  met-grouped (Fault v) a n e = let z : _≡_ {A = ℕ} 0 1 = cc in absurd (omega arith)
+  met-grouped (Plain b) a n e = let z : _≡_ {A = ℕ} 0 1 = cc in absurd (omega arith)
+  met-grouped (Group b) a n e = (cc, cc)
 
 -- ---- the fields of an AVP, read from the rest of its list
 

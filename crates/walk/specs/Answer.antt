@@ -10,12 +10,12 @@ use Rattle.walk.specs.declared.Walk.the-variants.{Whole, Stopped}
 -- a whole walk found no fault: number, place, vendor and code 0
 abbrev pub verdictOfWalk : Walk → Verdict
 verdictOfWalk (Whole count) = verdict 0 0 0 0
-verdictOfWalk (Stopped v) = v
+verdictOfWalk (Stopped count v) = v
 
 -- the AVPs that the record gets; with a refusal it is the empty one
 abbrev pub countOfWalk : Walk → ℕ
 countOfWalk (Whole count) = count
-countOfWalk (Stopped v) = 0
+countOfWalk (Stopped count v) = 0
 
 abbrev pub countOf : Walked → ℕ
 countOf (whole xs) = length xs

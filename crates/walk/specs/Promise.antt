@@ -1,22 +1,29 @@
 -- The promises of the walk, in terms of document 01's definitions. A private promise holds at every number of steps
 -- that is enough, so that no law on the number of steps is needed; the public one fixes it.
 use mathlib.Core.Path.{_≡_}
-use Prim.Native.Nat.{ℕ, suc, _+_, _-_, _≤_, _<_}
+use Prim.Native.Nat.{ℕ, suc, _+_, _-_, _≤_, _<_, min}
 use mathlib.Core.List.{List, []}
 use mathlib.Core.Bool.{Bool, cond, _||_}
 use lib.ListN.{length}
 use lib.Dec.{ltb}
 use Rattle.rules.specs.declared.Avp.{Avp}
+use Rattle.rules.specs.declared.Definition.{Definition}
+use Rattle.rules.specs.declared.Checked.{Checked}
+use Rattle.rules.specs.declared.Checked.the-variants.{Fault, Plain, Group}
 use Rattle.rules.specs.declared.Outcome.{Outcome}
 use Rattle.rules.specs.declared.Outcome.the-variants.{Pass, Refused}
 use Rattle.rules.specs.Octets.{padded}
 use Rattle.rules.specs.Verdict.{verdict, verdictOf}
 use Rattle.rules.specs.Header.{longestCommand}
 use Rattle.rules.specs.Avp.{flagM, flagP, nextAt}
-use Rattle.rules.specs.Dictionary.{Entry}
-use Rattle.rules.specs.Walk.{Standing, mostAvps, deepest, Walked, whole, stopped, avpsOf, stopOf, walkAvp, walkList}
+use Rattle.rules.specs.Dictionary.{Entry, isGroup}
+use Rattle.rules.specs.Walk.{Standing, mostAvps, deepest, contents, settled, Walked, whole, stopped, avpsOf, stopOf, walkAvp, walkList}
 use Rattle.rules.specs.Command.{walkBy}
-use Rattle.log.specs.Log.{avpsIn, putAvps}
+use Rattle.dictionary.specs.Table.{entryBy}
+use Rattle.log.specs.Log.{noNumber, putAll}
+use Rattle.log.specs.Families.{loggedFrom, Keeps, IsForest}
+use Rattle.walk.specs.declared.check.Met.{Met}
+use Rattle.walk.specs.declared.check.Met.the-variants.{Faulty, Basic, Grouped}
 use Rattle.walk.specs.declared.frame.Frame.{Frame}
 use Rattle.walk.specs.declared.frame.Frame.the-variants.{Holds, Broken}
 use Rattle.walk.specs.declared.Walk.{Walk}
@@ -59,10 +66,35 @@ pub record StandsIn (s : List ℕ) (w : Standing) : Type 0 where
   pub level : w .depth ≤ deepest
   pub few : w .count ≤ mostAvps
 
+-- checks 3 to 7 of an AVP with what the dictionary says of its name, and whether its data is a list
+abbrev pub checkedWith : List ℕ → ℕ → Avp → Definition → Checked
+checkedWith s at a d = settled (contents s at a d) (cond (isGroup d) (Group a) (Plain a))
+
+-- the number of a name's entry by a table of plain codes, in an octet, as a log keeps it
+abbrev pub numberBy : List ℕ → ℕ → ℕ → ℕ
+numberBy table vendor code = min (entryBy table vendor code) noNumber
+
+-- what the checks of an AVP give, with the number of its entry
+abbrev pub metWith : ℕ → Checked → Met
+metWith number (Fault v) = Faulty v
+metWith number (Plain a) = Basic a number
+metWith number (Group a) = Grouped a number
+
+-- the same, where `entry` gives the number of a name's entry
+abbrev pub metBy : (ℕ → ℕ → ℕ) → Checked → Met
+metBy entry (Fault v) = Faulty v
+metBy entry (Plain a) = Basic a (entry (a .vendor) (a .code))
+metBy entry (Group a) = Grouped a (entry (a .vendor) (a .code))
+
 -- what a walk hands back
 abbrev pub answerOf : ℕ → Walked → Walk
 answerOf count (whole xs) = Whole (count + length xs)
-answerOf count (stopped xs v) = Stopped v
+answerOf count (stopped xs v) = Stopped (count + length xs) v
+
+-- how many AVPs stand in the log after it
+abbrev pub metIn : Walk → ℕ
+metIn (Whole count) = count
+metIn (Stopped count v) = count
 
 -- where the AVP after this one stands
 abbrev pub nextAfter : Avp → ℕ
@@ -71,31 +103,37 @@ nextAfter a = a .start + padded (a .length)
 -- what the AVP walk hands back, with the place of the next AVP
 abbrev pub stepTo : ℕ → Walk → Step
 stepTo next (Whole count) = On count next
-stepTo next (Stopped v) = Halted v
+stepTo next (Stopped count v) = Halted count v
 
 -- the AVP walk: the answer, the log, and where the next AVP stands
-pub record AvpWalked (dict : List Entry) (s : List ℕ) (w : Standing) (before : List ℕ) (r : Step) (after : List ℕ) : Type 0 where
+pub record AvpWalked (dict : List Entry) (entry : ℕ → ℕ → ℕ) (s : List ℕ) (w : Standing) (before : List ℕ) (r : Step) (after : List ℕ) : Type 0 where
   pub answer : (n : ℕ) → w .end - w .at ≤ suc n
       → r ≡ stepTo (nextAt s (w .at)) (answerOf (w .count) (walkAvp (walkList n dict s) dict s w))
   pub logged : (n : ℕ) → w .end - w .at ≤ suc n
-      → after ≡ putAvps before (w .count) (avpsOf (walkAvp (walkList n dict s) dict s w))
+      → after ≡ putAll before (w .count) (loggedFrom entry (w .count) (avpsOf (walkAvp (walkList n dict s) dict s w)))
   pub within : (c next : ℕ) → r ≡ On c next → (w .at < next) × (next ≤ w .end) × (c ≤ mostAvps)
 
 -- the list walk
-pub record ListWalked (dict : List Entry) (s : List ℕ) (w : Standing) (before : List ℕ) (r : Walk) (after : List ℕ) : Type 0 where
+pub record ListWalked (dict : List Entry) (entry : ℕ → ℕ → ℕ) (s : List ℕ) (w : Standing) (before : List ℕ) (r : Walk) (after : List ℕ) : Type 0 where
   pub answer : (n : ℕ) → w .end - w .at ≤ n → r ≡ answerOf (w .count) (walkList n dict s w)
-  pub logged : (n : ℕ) → w .end - w .at ≤ n → after ≡ putAvps before (w .count) (avpsOf (walkList n dict s w))
+  pub logged : (n : ℕ) → w .end - w .at ≤ n → after ≡ putAll before (w .count) (loggedFrom entry (w .count) (avpsOf (walkList n dict s w)))
   pub within : (c : ℕ) → r ≡ Whole c → c ≤ mostAvps
 
 -- the walk of a command; one longer than 16,384 octets is 7001 at 1, as by its header
 unfoldable pub commandWalk : List Entry → List ℕ → Walked
 commandWalk dict s = cond (ltb longestCommand (length s)) (stopped [] (verdict 7001 1 0 0)) (walkBy dict s)
 
+-- a log after a whole walk of so many AVPs: it holds them with their families, where the entries' numbers are octets
+pub record IsKept (dict : List Entry) (entry : ℕ → ℕ → ℕ) (s log : List ℕ) (c : ℕ) : Type 0 where
+  pub number : c ≡ length (avpsOf (commandWalk dict s))
+  pub kept : ((vendor code : ℕ) → entry vendor code ≤ noNumber) → Keeps log (loggedFrom entry 0 (avpsOf (commandWalk dict s)))
+  pub forest : IsForest 1 (avpsOf (commandWalk dict s))
+
 -- the answer by 01's number and values, and by its cases for the callers; the log, and what is read back from it
-pub record CommandWalked (dict : List Entry) (s before : List ℕ) (r : Walk) (after : List ℕ) : Type 0 where
+pub record CommandWalked (dict : List Entry) (entry : ℕ → ℕ → ℕ) (s before : List ℕ) (r : Walk) (after : List ℕ) : Type 0 where
   pub told : verdictOfWalk r ≡ verdictOf (stopOf (commandWalk dict s))
   pub counted : countOfWalk r ≡ countOf (commandWalk dict s)
   pub answer : r ≡ answerOf 0 (commandWalk dict s)
-  pub logged : after ≡ putAvps before 0 (avpsOf (commandWalk dict s))
+  pub logged : after ≡ putAll before 0 (loggedFrom entry 0 (avpsOf (commandWalk dict s)))
   pub few : (c : ℕ) → r ≡ Whole c → c ≤ mostAvps
-  pub read : (c : ℕ) → r ≡ Whole c → avpsIn after c ≡ avpsOf (commandWalk dict s)
+  pub read : (c : ℕ) → r ≡ Whole c → IsKept dict entry s after c

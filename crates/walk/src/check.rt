@@ -13,7 +13,7 @@ ghost use Rattle.rules.specs.Walk.{wrongFlags, unsupported, wrongWidth, wrongVa
 ghost use Rattle.rules.specs.Walk.{checkedAvp, checked, standing};
 ghost use Rattle.dictionary.specs.Entries.{definitionAt};
 ghost use Rattle.dictionary.specs.Table.{dictionaryBy};
-ghost use Rattle.walk.specs.Promise.{InList};
+ghost use Rattle.walk.specs.Promise.{InList, checkedWith, numberBy, metWith, metBy};
 use crate::frame;
 use crate::frame::Frame;
 use avp::is_named;
@@ -22,10 +22,18 @@ use dictionary::kinds::TransferRequestType;
 use dictionary::plain;
 use octets::has_flag;
 use rules::Avp;
-use rules::Checked;
 use rules::Outcome;
+use rules::Verdict;
 use rules::flags;
 use rules::limits;
+
+// What the checks of an AVP give: the fault; or the AVP and the number of its entry, where its data is not looked into,
+// and where it is a list.
+pub(crate) enum Met {
+    Faulty(Verdict),
+    Basic { avp: Avp, entry: u8 },
+    Grouped { avp: Avp, entry: u8 },
+}
 
 // V set with vendor 0.
 fn has_vendor_zero(flags: u8, vendor: u32) -> bool
@@ -133,20 +141,28 @@ fn content(s: &[u8], at: usize, a: Avp, entry: u8) -> Outcome
     Outcome::Pass
 }
 
-// Checks 3 to 7 of the AVP at a place, and whether its data are a list, by a table of plain codes.
-fn judged(s: &[u8], table: &[u8; plain::PLAIN_CODES], at: usize, a: Avp) -> Checked
+// Checks 3 to 7 of the AVP at a place, with the entry of its name, and whether its data is a list.
+fn judged(s: &[u8], at: usize, a: Avp, entry: u8) -> Met
     requires { ⌜ (at + headerOf false ≤ length (now s)) × (at ≤ longestCommand) ⌝ }
-    ensures { λ r. ⌜ r ≡ checkedAvp (dictionaryBy (now (table .entry))) (now (s .entry)) at a ⌝ }
+    ensures { λ r. ⌜ r ≡ metWith entry (checkedWith (now (s .entry)) at a (definitionAt dictionary entry)) ⌝ }
 {
-    let entry = dictionary::entry_by(table, a.vendor, a.code);
     let outcome = content(s, at, a, entry);
     if let Outcome::Refused(v) = outcome {
-        return Checked::Fault(v);
+        return Met::Faulty(v);
     }
     if dictionary::is_group(entry) {
-        return Checked::Group(a);
+        return Met::Grouped { avp: a, entry };
     }
-    Checked::Plain(a)
+    Met::Basic { avp: a, entry }
+}
+
+// The same, by a table of plain codes, which leads to the entry.
+fn looked_up(s: &[u8], table: &[u8; plain::PLAIN_CODES], at: usize, a: Avp) -> Met
+    requires { ⌜ (at + headerOf false ≤ length (now s)) × (at ≤ longestCommand) ⌝ }
+    ensures { λ r. ⌜ r ≡ metBy (numberBy (now (table .entry))) (checkedAvp (dictionaryBy (now (table .entry))) (now (s .entry)) at a) ⌝ }
+{
+    let entry = dictionary::entry_by(table, a.vendor, a.code);
+    judged(s, at, a, entry)
 }
 
 // The seven checks of the AVP at a place of a list, with `count` AVPs in the record already.
@@ -157,16 +173,16 @@ pub(crate) fn check(
     end: usize,
     depth: u32,
     count: usize,
-) -> Checked
+) -> Met
     requires { ⌜ InList (now s) at end ⌝ }
-    ensures { λ r. ⌜ r ≡ checked (dictionaryBy (now (table .entry))) (now (s .entry)) (standing at end depth count) ⌝ }
+    ensures { λ r. ⌜ r ≡ metBy (numberBy (now (table .entry))) (checked (dictionaryBy (now (table .entry))) (now (s .entry)) (standing at end depth count)) ⌝ }
 {
     if limits::MOST_AVPS <= count {
-        return Checked::Fault(frame::fault(7002, at, 0, 0));
+        return Met::Faulty(frame::fault(7002, at, 0, 0));
     }
     let framed = frame::framed(s, at, end, depth);
     match framed {
-        Frame::Holds(a) => judged(s, table, at, a),
-        Frame::Broken(v) => Checked::Fault(v),
+        Frame::Holds(a) => looked_up(s, table, at, a),
+        Frame::Broken(v) => Met::Faulty(v),
     }
 }

@@ -1,26 +1,48 @@
 // 01, Order of checks, Walk: the AVPs of a command in walk order, written into a lent log, or the first fault. The list
 // walk and the AVP walk call each other; the depth that is left falls at each group.
 ghost use Rattle.rules.specs.Walk.{standing};
+ghost use mathlib.Core.Path.{_≡_};
 ghost use Rattle.dictionary.specs.Table.{dictionaryBy};
-ghost use Rattle.walk.specs.Promise.{StandsIn, AvpWalked, ListWalked, CommandWalked};
+ghost use Rattle.walk.specs.Promise.{numberBy, StandsIn, metIn, stepTo, AvpWalked, ListWalked, CommandWalked};
+use crate::check::Met;
 use dictionary::plain;
-use rules::Checked;
 use rules::Verdict;
 use rules::limits;
 
 mod check;
 mod frame;
 
-// What a walk gives: all was read, and so many AVPs stand in the log; or the fault at which it stopped.
+// What a walk gives: all was read, and so many AVPs stand in the log; or the fault at which it stopped, and how many
+// AVPs stand in the log by then.
 pub enum Walk {
     Whole(usize),
-    Stopped(Verdict),
+    Stopped { count: usize, verdict: Verdict },
 }
 
 // What the AVP walk gives: so many AVPs stand in the log, and the next one of the list at `next`; or the fault.
 enum Step {
     On { count: usize, next: usize },
-    Halted(Verdict),
+    Halted { count: usize, verdict: Verdict },
+}
+
+// How many AVPs stand in the log after a walk.
+fn met_in(walk: Walk) -> usize
+    ensures { λ r. ⌜ r ≡ metIn walk ⌝ }
+{
+    match walk {
+        Walk::Whole(count) => count,
+        Walk::Stopped { count, verdict: _ } => count,
+    }
+}
+
+// What the AVP walk gives behind a group whose members were walked.
+fn behind_group(members: Walk, next: usize) -> Step
+    ensures { λ r. ⌜ r ≡ stepTo next members ⌝ }
+{
+    match members {
+        Walk::Whole(count) => Step::On { count, next },
+        Walk::Stopped { count, verdict } => Step::Halted { count, verdict },
+    }
 }
 
 // One AVP of the list that ends at `end`, with `count` AVPs in the log already.
@@ -34,30 +56,26 @@ fn walk_avp(
     log: &mut [u32; limits::LOG_NUMBERS],
 ) -> Step
     requires { ⌜ StandsIn (now s) (standing at end depth count) ⌝ }
-    ensures { λ r. ⌜ AvpWalked (dictionaryBy (now (table .entry))) (now (s .entry)) (standing at end depth count) (now (log .entry)) r (now (log .exit)) ⌝ }
+    ensures { λ r. ⌜ AvpWalked (dictionaryBy (now (table .entry))) (numberBy (now (table .entry))) (now (s .entry)) (standing at end depth count) (now (log .entry)) r (now (log .exit)) ⌝ }
 {
-    let c = check::check(s, table, at, end, depth, count);
-    match c {
-        Checked::Fault(v) => Step::Halted(v),
-        Checked::Plain(a) => {
+    let met = check::check(s, table, at, end, depth, count);
+    match met {
+        Met::Faulty(verdict) => Step::Halted { count, verdict },
+        Met::Basic { avp: a, entry } => {
             log::put(log, count, a);
+            log::put_family(log, count, entry, count + 1);
             Step::On {
                 count: count + 1,
                 next: frame::next_after(a),
             }
         }
-        Checked::Group(a) => {
+        Met::Grouped { avp: a, entry } => {
             log::put(log, count, a);
             let start = a.start as usize;
             let length = a.length as usize;
             let members = walk_list(s, table, start, start + length, depth + 1, count + 1, log);
-            match members {
-                Walk::Whole(c) => Step::On {
-                    count: c,
-                    next: frame::next_after(a),
-                },
-                Walk::Stopped(v) => Step::Halted(v),
-            }
+            log::put_family(log, count, entry, met_in(members));
+            behind_group(members, frame::next_after(a))
         }
     }
 }
@@ -73,7 +91,7 @@ fn walk_list(
     log: &mut [u32; limits::LOG_NUMBERS],
 ) -> Walk
     requires { ⌜ StandsIn (now s) (standing at end depth count) ⌝ }
-    ensures { λ r. ⌜ ListWalked (dictionaryBy (now (table .entry))) (now (s .entry)) (standing at end depth count) (now (log .entry)) r (now (log .exit)) ⌝ }
+    ensures { λ r. ⌜ ListWalked (dictionaryBy (now (table .entry))) (numberBy (now (table .entry))) (now (s .entry)) (standing at end depth count) (now (log .entry)) r (now (log .exit)) ⌝ }
 {
     let mut place = at;
     let mut met = count;
@@ -84,7 +102,7 @@ fn walk_list(
                 place = next;
                 met = c;
             }
-            Step::Halted(v) => return Walk::Stopped(v),
+            Step::Halted { count: c, verdict } => return Walk::Stopped { count: c, verdict },
         }
     }
     Walk::Whole(met)
@@ -97,16 +115,19 @@ pub fn walk_command(
     table: &[u8; plain::PLAIN_CODES],
     log: &mut [u32; limits::LOG_NUMBERS],
 ) -> Walk
-    ensures { λ r. ⌜ CommandWalked (dictionaryBy (now (table .entry))) (now (s .entry)) (now (log .entry)) r (now (log .exit)) ⌝ }
+    ensures { λ r. ⌜ CommandWalked (dictionaryBy (now (table .entry))) (numberBy (now (table .entry))) (now (s .entry)) (now (log .entry)) r (now (log .exit)) ⌝ }
 {
     log::size(log);
     if limits::LONGEST_COMMAND < s.len() {
-        return Walk::Stopped(Verdict {
-            number: 7001,
-            place: 1,
-            vendor: 0,
-            code: 0,
-        });
+        return Walk::Stopped {
+            count: 0,
+            verdict: Verdict {
+                number: 7001,
+                place: 1,
+                vendor: 0,
+                code: 0,
+            },
+        };
     }
     if s.len() < limits::HEADER_SIZE {
         return Walk::Whole(0);

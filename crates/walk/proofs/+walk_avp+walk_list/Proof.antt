@@ -10,7 +10,8 @@ use Rattle.dictionary.specs.Table.{dictionaryBy}
 use Rattle.rules.specs.Dictionary.{Entry}
 use Rattle.rules.specs.Walk.{Standing, standing, checked}
 use Rattle.rules.proofs.Passed.{group-framed}
-use Rattle.walk.specs.Promise.{nextAfter, stepTo, AvpWalked}
+use Rattle.walk.specs.Promise.{numberBy}
+use Rattle.walk.proofs.Framing.{met-faulty, met-basic, met-grouped}
 use Rattle.walk.proofs.OneAvp.{group-level, group-few, fault-walked, plain-walked, group-walked}
 use Rattle.walk.proofs.Along.{Turn, turn-start, turn-again, turn-stopped, turn-end}
 use borrow.Fn.Kinds.{In}
@@ -22,8 +23,11 @@ use Rattle.walk.proofs.walk_list.Reads as walk-list
 use Rattle.walk.proofs.walk_list.Kinds as walk-list-kinds
 use Rattle.walk.proofs.+walk_avp+walk_list.Lts-walk_list as walk-list-lts
 use Rattle.log.proofs.put.Reads as put-reads
+use Rattle.log.proofs.put_family.Reads as put-family-reads
+use Rattle.walk.proofs.behind_group.Reads as behind-group-reads
 use Rattle.walk.proofs.check.check.Reads as check-reads
 use Rattle.walk.proofs.frame.next_after.Reads as next-after-reads
+use Rattle.walk.proofs.met_in.Reads as met-in-reads
 use Rattle.walk.proofs.+walk_avp+walk_list.{statement}
 use Rattle.walk.proofs.+walk_avp+walk_list.Tie.{close}
 
@@ -54,15 +58,25 @@ walk-avp-claims t = (
   check-reads.Learnt,
   put-reads.Asked,
   put-reads.Learnt,
+  put-family-reads.Asked,
+  put-family-reads.Learnt,
   next-after-reads.Asked,
   next-after-reads.Learnt,
   walk-list-below t,
   walk-list.Post,
+  met-in-reads.Asked,
+  met-in-reads.Learnt,
+  behind-group-reads.Asked,
+  behind-group-reads.Learnt,
 )
 
 -- the dictionary that the AVP walk goes by
 abbrev dict : (t : ℕ) → walk-avp-lts.Start (walk-avp-claims t) (walk-avp-at t) walk-avp.Post → List Entry
 dict t st = dictionaryBy (st .args .table .now)
+
+-- the entries' numbers that it goes by
+abbrev numbers : (t : ℕ) → walk-avp-lts.Start (walk-avp-claims t) (walk-avp-at t) walk-avp.Post → ℕ → ℕ → ℕ
+numbers t st = numberBy (st .args .table .now)
 
 -- where the AVP walk stands
 abbrev here : (t : ℕ) → walk-avp-lts.Start (walk-avp-claims t) (walk-avp-at t) walk-avp.Post → Standing
@@ -71,23 +85,29 @@ here t st = let a = st .args in standing (a .at) (a .end) (a .depth) (a .count)
 walk-avp-check-requires : (t : ℕ) → walk-avp-lts.Need-check-requires (walk-avp-claims t) (walk-avp-at t) walk-avp.Post
 walk-avp-check-requires t c κs = c .before .pre .1 .place
 
-walk-avp-enum-known-c : (t : ℕ) → walk-avp-lts.Need-enum-known-c (walk-avp-claims t) (walk-avp-at t) walk-avp.Post
-walk-avp-enum-known-c t c = search needs
+walk-avp-enum-known-met : (t : ℕ) → walk-avp-lts.Need-enum-known-met (walk-avp-claims t) (walk-avp-at t) walk-avp.Post
+walk-avp-enum-known-met t c = search needs
 
-walk-avp-enum-known-c-2 : (t : ℕ) → walk-avp-lts.Need-enum-known-c-2 (walk-avp-claims t) (walk-avp-at t) walk-avp.Post
-walk-avp-enum-known-c-2 t c = search needs
+walk-avp-enum-known-met-2 : (t : ℕ) → walk-avp-lts.Need-enum-known-met-2 (walk-avp-claims t) (walk-avp-at t) walk-avp.Post
+walk-avp-enum-known-met-2 t c = search needs
 
 walk-avp-put-requires : (t : ℕ) → walk-avp-lts.Need-put-requires (walk-avp-claims t) (walk-avp-at t) walk-avp.Post
 walk-avp-put-requires t c κs = search needs
 
-walk-avp-add-t20 : (t : ℕ) → walk-avp-lts.Need-add-t20 (walk-avp-claims t) (walk-avp-at t) walk-avp.Post
-walk-avp-add-t20 t c = omega arith
+walk-avp-add-put-family : (t : ℕ) → walk-avp-lts.Need-add-put-family (walk-avp-claims t) (walk-avp-at t) walk-avp.Post
+walk-avp-add-put-family t c = omega arith
+
+walk-avp-put-family-requires : (t : ℕ) → walk-avp-lts.Need-put-family-requires (walk-avp-claims t) (walk-avp-at t) walk-avp.Post
+walk-avp-put-family-requires t c κs = search needs
+
+walk-avp-add-t21 : (t : ℕ) → walk-avp-lts.Need-add-t21 (walk-avp-claims t) (walk-avp-at t) walk-avp.Post
+walk-avp-add-t21 t c = omega arith
 
 walk-avp-next-after-requires : (t : ℕ) → walk-avp-lts.Need-next-after-requires (walk-avp-claims t) (walk-avp-at t) walk-avp.Post
 walk-avp-next-after-requires t c κs = search needs
 
-walk-avp-enum-known-c-3 : (t : ℕ) → walk-avp-lts.Need-enum-known-c-3 (walk-avp-claims t) (walk-avp-at t) walk-avp.Post
-walk-avp-enum-known-c-3 t c = search needs
+walk-avp-enum-known-met-3 : (t : ℕ) → walk-avp-lts.Need-enum-known-met-3 (walk-avp-claims t) (walk-avp-at t) walk-avp.Post
+walk-avp-enum-known-met-3 t c = search needs
 
 walk-avp-put-requires-2 : (t : ℕ) → walk-avp-lts.Need-put-requires-2 (walk-avp-claims t) (walk-avp-at t) walk-avp.Post
 walk-avp-put-requires-2 t c κs = search needs
@@ -98,11 +118,20 @@ walk-avp-cast-start t c = search needs
 walk-avp-cast-length : (t : ℕ) → walk-avp-lts.Need-cast-length (walk-avp-claims t) (walk-avp-at t) walk-avp.Post
 walk-avp-cast-length t c = search needs
 
--- a group that passed, from its place in the walk on
-group-checked : (t : ℕ) (g : walk-avp-lts.After-c3 (walk-avp-claims t) (walk-avp-at t) walk-avp.Post) →
+-- what the checks told of a group that passed, from its place in the walk on
+group-told : (t : ℕ) (g : walk-avp-lts.After-met3 (walk-avp-claims t) (walk-avp-at t) walk-avp.Post) →
+    let st = g .before .before .before .before in
+    let a = g .met3 .given .0 .0 in
+    (checked (dict t st) (st .args .s .now) (here t st) ≡ Group a) × (g .met3 .given .0 .1 .0 ≡ numbers t st (a .vendor) (a .code))
+group-told t g =
     let k = g .before .before in
-    checked (dict t (k .before .before)) (k .before .before .args .s .now) (here t (k .before .before)) ≡ Group (g .c3 .given .0 .0)
-group-checked t g = sym (g .before .before .check .ensures) ∙ g .c3 .given .1
+    let st = k .before .before in
+    met-grouped (numbers t st) (checked (dict t st) (st .args .s .now) (here t st)) _ _ (sym (g .met3 .given .1) ∙ k .check .ensures)
+
+group-checked : (t : ℕ) (g : walk-avp-lts.After-met3 (walk-avp-claims t) (walk-avp-at t) walk-avp.Post) →
+    let st = g .before .before .before .before in
+    checked (dict t st) (st .args .s .now) (here t st) ≡ Group (g .met3 .given .0 .0)
+group-checked t g = group-told t g .0
 
 walk-avp-add-walk-list : (t : ℕ) → walk-avp-lts.Need-add-walk-list (walk-avp-claims t) (walk-avp-at t) walk-avp.Post
 walk-avp-add-walk-list t c =
@@ -131,57 +160,58 @@ walk-avp-walk-list-requires t c κs =
       record { place = omega (arith, p, place); level = omega (arith, l); few = omega (arith, few) },
     )
 
-walk-avp-enum-known-members : (t : ℕ) → walk-avp-lts.Need-enum-known-members (walk-avp-claims t) (walk-avp-at t) walk-avp.Post
-walk-avp-enum-known-members t c = search needs
+walk-avp-met-in-requires : (t : ℕ) → walk-avp-lts.Need-met-in-requires (walk-avp-claims t) (walk-avp-at t) walk-avp.Post
+walk-avp-met-in-requires t c κs = search needs
+
+walk-avp-put-family-requires-2 : (t : ℕ) → walk-avp-lts.Need-put-family-requires-2 (walk-avp-claims t) (walk-avp-at t) walk-avp.Post
+walk-avp-put-family-requires-2 t c κs = search needs
 
 walk-avp-next-after-requires-2 : (t : ℕ) → walk-avp-lts.Need-next-after-requires-2 (walk-avp-claims t) (walk-avp-at t) walk-avp.Post
 walk-avp-next-after-requires-2 t c κs = search needs
 
-walk-avp-enum-known-members-2 : (t : ℕ) → walk-avp-lts.Need-enum-known-members-2 (walk-avp-claims t) (walk-avp-at t) walk-avp.Post
-walk-avp-enum-known-members-2 t c = search needs
+walk-avp-behind-group-requires : (t : ℕ) → walk-avp-lts.Need-behind-group-requires (walk-avp-claims t) (walk-avp-at t) walk-avp.Post
+walk-avp-behind-group-requires t c κs = search needs
 
 walk-avp-returns : (t : ℕ) → walk-avp-lts.Need-returns (walk-avp-claims t) (walk-avp-at t) walk-avp.Post
 walk-avp-returns t c =
     let k = c .before .before .before in
     let st = k .before .before in
     let a = st .args in
-    fault-walked (dict t st) (a .s .now) (here t st) (a .log .now) _ (sym (k .check .ensures) ∙ c .before .c .given .1)
+    fault-walked (dict t st) (numbers t st) (a .s .now) (here t st) (a .log .now) _
+    (met-faulty (numbers t st) (checked (dict t st) (a .s .now) (here t st)) _ (sym (c .before .met .given .1) ∙ k .check .ensures))
 
 walk-avp-returns-2 : (t : ℕ) → walk-avp-lts.Need-returns-2 (walk-avp-claims t) (walk-avp-at t) walk-avp.Post
 walk-avp-returns-2 t c =
-    let p = c .before in
+    let f = c .before in
+    let p = f .before .before in
     let g = p .before .before .before in
     let k = g .before .before in
     let st = k .before .before in
     let a = st .args in
+    let e = met-basic (numbers t st) (checked (dict t st) (a .s .now) (here t st)) _ _ (sym (g .met2 .given .1) ∙ k .check .ensures) in
     rw (c .next-after .ensures)
-    (plain-walked (dict t st) (a .s .now) (here t st) (a .log .now) _ (p .put .ensures) (sym (k .check .ensures) ∙ g .c2 .given .1))
-
--- what is promised, with the group and what the walk of its members gave
-group-promise : (t : ℕ) (l : walk-avp-lts.After-walk-list (walk-avp-claims t) (walk-avp-at t) walk-avp.Post) →
-    let g = l .before .before .before .before .before .before .before in
-    let st = g .before .before .before .before in
-    AvpWalked (dict t st) (st .args .s .now) (here t st) (st .args .log .now)
-    (stepTo (nextAfter (g .c3 .given .0 .0)) (l .walk-list .result)) (l .walk-list .last .1 .1 .1 .1 .1 .1 .0)
-group-promise t l =
-    let w = l .before .before .before .before in
-    let g = w .before .before .before in
-    let st = g .before .before .before .before in
-    let a = st .args in
-    group-walked (dict t st) (a .s .now) (here t st) (a .log .now) _ (w .put2 .ensures) (group-checked t g)
-    (l .walk-list .result) (l .walk-list .last .1 .1 .1 .1 .1 .1 .0) (l .walk-list .ensures)
+    (plain-walked (dict t st) (numbers t st) (a .s .now) (here t st) (a .log .now) _ (p .put .ensures) (e .1) (e .0) _
+    (f .put-family .ensures))
 
 walk-avp-returns-3 : (t : ℕ) → walk-avp-lts.Need-returns-3 (walk-avp-claims t) (walk-avp-at t) walk-avp.Post
 walk-avp-returns-3 t c =
-    let m = c .before .before in
-    rw (c .next-after2 .ensures) (rw (m .members .given .1) at (group-promise t (m .before .before)))
-
-walk-avp-returns-4 : (t : ℕ) → walk-avp-lts.Need-returns-4 (walk-avp-claims t) (walk-avp-at t) walk-avp.Post
-walk-avp-returns-4 t c = rw (c .before .members2 .given .1) at (group-promise t (c .before .before .before))
+    let n = c .before in
+    let f = n .before in
+    let m = f .before in
+    let l = m .before .before in
+    let w = l .before .before .before .before in
+    let g = w .before .before .before in
+    let k = g .before .before in
+    let st = k .before .before in
+    let a = st .args in
+    let e = group-told t g in
+    rw (c .behind-group .ensures, n .next-after2 .ensures)
+    (group-walked (dict t st) (numbers t st) (a .s .now) (here t st) (a .log .now) _ (w .put2 .ensures) (e .1) (e .0)
+    (l .walk-list .result) _ (l .walk-list .ensures) _ (rw (m .met-in .ensures) at (f .put-family2 .ensures)))
 
 abbrev walk-list-Inv-loop : walk-list-lts.InvT-loop
 walk-list-Inv-loop s table at end depth count log₀ place₀ met₀ log place met =
-    Turn (dictionaryBy table) s (standing at end depth count) log₀ place met log
+    Turn (dictionaryBy table) (numberBy table) s (standing at end depth count) log₀ place met log
 
 abbrev walk-list-μ-loop : walk-list-lts.MeasureT-loop
 walk-list-μ-loop s table at end depth count log₀ place₀ met₀ log place met = end - place
@@ -196,7 +226,7 @@ walk-list-loop-holds :
     walk-list-μ-loop
 walk-list-loop-holds t c =
     let st = c .before in
-    turn-start _ _ _ _ (st .pre .1 .place .order) (st .pre .1 .few)
+    turn-start _ _ _ _ _ (st .pre .1 .place .order) (st .pre .1 .few)
 
 walk-list-walk-avp-requires : (t : ℕ) → walk-list-lts.Need-walk-avp-requires (
   walk-avp-below t,
@@ -240,7 +270,7 @@ walk-list-loop-again :
 walk-list-loop-again t c =
     let w = c .before .before .before in
     let lp = w .before .before .before in
-    turn-again _ _ _ _ _ _ _ (lp .loop .inv) (w .before .before .loop-test .taken) _ _ _
+    turn-again _ _ _ _ _ _ _ _ (lp .loop .inv) (w .before .before .loop-test .taken) _ _ _
     (rw (c .before .one .given .1) at (w .walk-avp .ensures))
 
 walk-list-enum-known-one-2 : (t : ℕ) → walk-list-lts.Need-enum-known-one-2 (
@@ -260,7 +290,7 @@ walk-list-returns :
 walk-list-returns t c =
     let w = c .before .before .before in
     let lp = w .before .before .before in
-    turn-stopped _ _ _ _ _ _ _ (lp .loop .inv) (w .before .before .loop-test .taken) (c .before .one2 .given .0 .0)
+    turn-stopped _ _ _ _ _ _ _ _ (lp .loop .inv) (w .before .before .loop-test .taken) (c .before .one2 .given .0 .0) (c .before .one2 .given .0 .1 .0)
     (w .walk-avp .last .1 .1 .1 .1 .1 .1 .0) (rw (c .before .one2 .given .1) at (w .walk-avp .ensures))
 
 walk-list-returns-2 :
@@ -271,19 +301,21 @@ walk-list-returns-2 :
     walk-list.Post
     walk-list-Inv-loop
     walk-list-μ-loop
-walk-list-returns-2 t c = turn-end _ _ _ _ _ _ _ (c .before .loop .inv) (c .loop-test .left)
+walk-list-returns-2 t c = turn-end _ _ _ _ _ _ _ _ (c .before .loop .inv) (c .loop-test .left)
 
 pub +walk-avp+walk-list-spec : {M : Type 1} → statement M
 +walk-avp+walk-list-spec = close μ-walk-avp μ-walk-list (λ t. walk-avp-lts.spec (walk-avp-claims t)
     (walk-avp-at t)
     walk-avp.Post
     (walk-avp-check-requires t)
-    (walk-avp-enum-known-c t)
-    (walk-avp-enum-known-c-2 t)
+    (walk-avp-enum-known-met t)
+    (walk-avp-enum-known-met-2 t)
     (walk-avp-put-requires t)
-    (walk-avp-add-t20 t)
+    (walk-avp-add-put-family t)
+    (walk-avp-put-family-requires t)
+    (walk-avp-add-t21 t)
     (walk-avp-next-after-requires t)
-    (walk-avp-enum-known-c-3 t)
+    (walk-avp-enum-known-met-3 t)
     (walk-avp-put-requires-2 t)
     (walk-avp-cast-start t)
     (walk-avp-cast-length t)
@@ -291,13 +323,13 @@ pub +walk-avp+walk-list-spec : {M : Type 1} → statement M
     (walk-avp-add-walk-list-2 t)
     (walk-avp-add-walk-list-3 t)
     (walk-avp-walk-list-requires t)
-    (walk-avp-enum-known-members t)
+    (walk-avp-met-in-requires t)
+    (walk-avp-put-family-requires-2 t)
     (walk-avp-next-after-requires-2 t)
-    (walk-avp-enum-known-members-2 t)
+    (walk-avp-behind-group-requires t)
     (walk-avp-returns t)
     (walk-avp-returns-2 t)
-    (walk-avp-returns-3 t)
-    (walk-avp-returns-4 t))
+    (walk-avp-returns-3 t))
     λ t. walk-list-lts.spec
     (walk-avp-below t, walk-avp.Post)
     (walk-list-at t)

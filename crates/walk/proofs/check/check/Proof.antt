@@ -2,7 +2,7 @@
 use borrow.Author.Needs.{needs}
 use mathlib.Core.Path.{sym, ap, _∙_}
 use native.Mathlib.Omega.{arith}
-use Rattle.rules.specs.declared.Checked.the-variants.{Fault}
+use Rattle.walk.specs.declared.check.Met.the-variants.{Faulty}
 use Rattle.dictionary.specs.Table.{dictionaryBy}
 use Rattle.rules.specs.Walk.{Standing, standing}
 use Rattle.rules.proofs.Walk.{checked-many}
@@ -20,7 +20,8 @@ fault-requires c κs = search needs
 returns : tie.Need-returns
 returns c =
     let st = c .before .before .before in
-    ap Fault (c .fault .ensures) ∙ sym (checked-many (dictionaryBy (st .args .table .now)) (st .args .s .now) (here st) (omega (arith, c .before .if1 .taken)))
+    rw (checked-many (dictionaryBy (st .args .table .now)) (st .args .s .now) (here st) (omega (arith, c .before .if1 .taken)))
+    (ap Faulty (c .fault .ensures))
 
 framed-requires : tie.Need-framed-requires
 framed-requires c κs = search needs
@@ -28,8 +29,8 @@ framed-requires c κs = search needs
 enum-known-framed : tie.Need-enum-known-framed
 enum-known-framed c = search needs
 
-judged-requires : tie.Need-judged-requires
-judged-requires c κs =
+looked-up-requires : tie.Need-looked-up-requires
+looked-up-requires c κs =
     let f = c .before .before .before in
     let st = f .before .before .before in
     let h = holds-framed (st .args .s .now) (here st) (sym (c .before .framed2 .given .1) ∙ f .framed .ensures) in
@@ -43,14 +44,14 @@ returns-2 c =
     let h = c .before .before in
     let f = h .before .before in
     let st = f .before .before .before in
-    c .judged .ensures
-    ∙ sym (holds-checked (st .args .s .now) (here st) (dictionaryBy (st .args .table .now)) (omega (arith, f .before .if1 .left)) (sym (h .framed2 .given .1) ∙ f .framed .ensures))
+    rw (holds-checked (st .args .s .now) (here st) (dictionaryBy (st .args .table .now)) (omega (arith, f .before .if1 .left)) (sym (h .framed2 .given .1) ∙ f .framed .ensures))
+    (c .looked-up .ensures)
 
 returns-3 : tie.Need-returns-3
 returns-3 c =
     let f = c .before .before .before in
     let st = f .before .before .before in
-    sym (broken-checked (st .args .s .now) (here st) (dictionaryBy (st .args .table .now)) (omega (arith, f .before .if1 .left)) (sym (c .before .framed3 .given .1) ∙ f .framed .ensures))
+    rw (broken-checked (st .args .s .now) (here st) (dictionaryBy (st .args .table .now)) (omega (arith, f .before .if1 .left)) (sym (c .before .framed3 .given .1) ∙ f .framed .ensures))
 
 pub check-spec : {M : Type 1} → statement M
 check-spec =
@@ -60,7 +61,7 @@ check-spec =
     returns
     framed-requires
     enum-known-framed
-    judged-requires
+    looked-up-requires
     enum-known-framed-2
     returns-2
     returns-3)
