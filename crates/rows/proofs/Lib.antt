@@ -1,3 +1,8 @@
--- The laws of rows, of required rows and of the members of a list. They name no code.
-pub mod Rows
+-- The laws of the tables of rows, of row counts, of the members of a list, and that the log of a walk is judged as
+-- document 01 judges its AVPs. They name no code.
+pub mod Tables
+pub mod Counts
 pub mod Members
+pub mod Noted
+pub mod Walked
+pub mod Firsts

@@ -1,90 +1,98 @@
--- Laws of the members of a list, one by one, of the groups of the walk, and of row counts.
-use mathlib.Core.Path.{_≡_, refl}
+-- Laws of the row checks by the numbers of a log: the members of a list one by one, and the groups of the walk.
+use mathlib.Core.Path.{_≡_, refl, sym, ap, _∙_}
 use mathlib.Core.List.{List, [], _∷_}
-use mathlib.Core.Bool.{Bool, false}
-use Prim.Native.Nat.{ℕ, zero, suc, _+_, _≤_, _<_}
+use mathlib.Core.Bool.{Bool, true, false, cond}
+use Prim.Native.Nat.{ℕ, zero, suc, _+_, _-_, _≤_, _<_}
 use native.Mathlib.Omega.{arith}
-use borrow.Author.Tests.{lt-ltb, le-ltb, eq-eqb, ne-eqb}
-use lib.ListN.{getD, set, replicate}
-use Rattle.rules.specs.declared.Avp.{Avp}
+use borrow.Author.Tests.{lt-ltb, le-ltb, ltb-true}
+use lib.Dec.{ltb}
 use Rattle.rules.specs.declared.Grammar.{Grammar}
+use Rattle.rules.specs.declared.Members.{Members}
 use Rattle.rules.specs.declared.Outcome.{Outcome}
 use Rattle.rules.specs.declared.Outcome.the-variants.{Pass}
 use Rattle.rules.specs.declared.Admission.{Admission}
-use Rattle.rules.specs.declared.Admission.the-variants.{ByRow, NoRow}
 use Rattle.rules.specs.Verdict.{orElse}
 use Rattle.rules.specs.Rows.{admitsOthers}
-use Rattle.rules.specs.Dictionary.{Entry, find, membersOf}
-use Rattle.rules.specs.RowChecks.{noneMet, admission, counted, byAdmission, memberOutcome, missing, membersOutcome, membersAt, listOutcome, groupOutcome, groupsOutcome, rowsOutcome}
+use Rattle.rules.specs.Dictionary.{dictionary, membersOf}
+use Rattle.rules.specs.RowChecks.{counted, byAdmission, missing}
+use Rattle.dictionary.specs.Entries.{definitionAt}
+use Rattle.log.specs.Log.{Logged}
+use Rattle.rows.specs.ByLog.{admissionAt, hops, membersBy, listBy, groupBy, groupsBy, rowsBy}
 
--- ---- the members of a list
+-- what is left of a list from position i on, with the counts so far
+abbrev pub leftBy : (ℕ → Logged) → ℕ → Grammar → ℕ → List ℕ → Bool → ℕ → Outcome
+leftBy at stop g end counts first i = membersBy g end counts first (hops (stop - i) at i stop)
 
-module _ (g : Grammar) (end : ℕ) (counts : List ℕ) (first : Bool) where
-  pub members-none : (depth : ℕ) → membersOutcome g end counts first (membersAt depth []) ≡ missing g counts end
-  unfolding membersAt membersOutcome
-  members-none depth = refl
+module _ (at : ℕ → Logged) where
+  -- ---- the members of a list
 
-  module _ (a : Avp) (xs : List Avp) (depth : ℕ) where
-    -- an AVP above the list's depth ends it
-    pub members-above : a .depth < depth → membersOutcome g end counts first (membersAt depth (a ∷ xs)) ≡ missing g counts end
-    unfolding membersAt membersOutcome
-    members-above h = rw (lt-ltb (a .depth) depth h)
+  module _ (stop : ℕ) where
+    hops-none : (n i : ℕ) → stop ≤ i → hops n at i stop ≡ []
+    unfolding hops
+    hops-none zero i h = refl
+    hops-none (suc n) i h = rw (le-ltb i stop h)
 
-    -- a deeper one is no member
-    pub members-deeper : depth < a .depth
-        → membersOutcome g end counts first (membersAt depth (a ∷ xs)) ≡ membersOutcome g end counts first (membersAt depth xs)
-    unfolding membersAt
-    members-deeper h = rw (le-ltb (a .depth) depth (omega arith), ne-eqb (a .depth) depth (λ e. omega arith))
+    hops-next : (n i : ℕ) → i < stop → hops (suc n) at i stop ≡ at i ∷ hops n at (at i .after) stop
+    unfolding hops
+    hops-next n i h = rw (lt-ltb i stop h)
 
-    members-member : a .depth ≡ depth → membersAt depth (a ∷ xs) ≡ a ∷ membersAt depth xs
-    unfolding membersAt
-    members-member e = rw (le-ltb (a .depth) depth (omega arith), eq-eqb (a .depth) depth e)
+    -- where each hop goes on, enough steps give the same members
+    module _ (onward : (i : ℕ) → i < stop → i < at i .after) where
+      hops-again : (n m i : ℕ) (more : Bool) → ltb i stop ≡ more
+          → (i < stop → hops n at (at i .after) stop ≡ hops m at (at i .after) stop)
+          → hops (suc n) at i stop ≡ hops (suc m) at i stop
+      unfolding hops
+      hops-again n m i true e same = rw e (ap (λ (ls : List Logged). at i ∷ ls) (same (ltb-true i stop e)))
+      hops-again n m i false e same = rw e
 
-    -- a member at the list's depth, with the row that names it and what that says
-    pub members-next : (m : Admission) (o : Outcome) → a .depth ≡ depth → m ≡ admission g (a .vendor) (a .code)
-        → o ≡ byAdmission (admitsOthers g) counts first a m
-        → membersOutcome g end counts first (membersAt depth (a ∷ xs))
-        ≡ orElse o (membersOutcome g end (counted counts m) false (membersAt depth xs))
-    unfolding membersOutcome memberOutcome
-    members-next m o e p q = rw (members-member e, q, p)
+      hops-enough : (n m i : ℕ) → stop - i ≤ n → stop - i ≤ m → hops n at i stop ≡ hops m at i stop
+      hops-enough zero m i h k = hops-none zero i (omega arith) ∙ sym (hops-none m i (omega arith))
+      hops-enough (suc n) zero i h k = hops-none (suc n) i (omega arith) ∙ sym (hops-none zero i (omega arith))
+      hops-enough (suc n) (suc m) i h k =
+          hops-again n m i (ltb i stop) refl
+          (λ l. hops-enough n m (at i .after) (omega (arith, onward i l)) (omega (arith, onward i l)))
 
--- ---- the groups of the walk
+      hops-first : (i : ℕ) → i < stop → hops (stop - i) at i stop ≡ at i ∷ hops (stop - at i .after) at (at i .after) stop
+      hops-first i h =
+          let e : stop - i ≡ suc (stop - i - 1) = omega arith in
+          ap (λ (n : ℕ). hops n at i stop) e
+          ∙ hops-next (stop - i - 1) i h
+          ∙ ap (λ (ls : List Logged). at i ∷ ls)
+          (hops-enough (stop - i - 1) (stop - at i .after) (at i .after) (omega (arith, onward i h)) (omega arith))
 
-pub groups-none : (dict : List Entry) → groupsOutcome dict [] ≡ Pass
-unfolding groupsOutcome
-groups-none dict = refl
+      module _ (g : Grammar) (end : ℕ) (counts : List ℕ) (first : Bool) (i : ℕ) where
+        -- the member at the position, with the row that names it and what that says
+        pub members-next : i < stop → (l : Logged) (m : Admission) (o : Outcome) → l ≡ at i → m ≡ admissionAt g (l .entry)
+            → o ≡ byAdmission (admitsOthers g) counts first (l .avp) m
+            → leftBy at stop g end counts first i ≡ orElse o (leftBy at stop g end (counted counts m) false (l .after))
+        unfolding membersBy
+        members-next h l m o e p q = rw (hops-first i h, q, p, e)
 
-pub groups-next : (dict : List Entry) (a : Avp) (xs : List Avp)
-    → groupsOutcome dict (a ∷ xs) ≡ orElse (groupOutcome (membersOf (find dict (a .vendor) (a .code))) a xs) (groupsOutcome dict xs)
-unfolding groupsOutcome
-groups-next dict a xs = refl
+    pub members-none : (g : Grammar) (end : ℕ) (counts : List ℕ) (first : Bool) (i : ℕ) → stop ≤ i
+        → leftBy at stop g end counts first i ≡ missing g counts end
+    unfolding membersBy
+    members-none g end counts first i h = rw (hops-none (stop - i) i h)
 
--- ---- the command's list, then the groups
+  -- ---- the groups of the walk
 
-pub rows-next : (dict : List Entry) (g : Grammar) (end : ℕ) (xs : List Avp) (o : Outcome) → o ≡ listOutcome g 1 end xs
-    → orElse o (groupsOutcome dict xs) ≡ rowsOutcome dict g end xs
-unfolding rowsOutcome
-rows-next dict g end xs o e = rw e
+  module _ (count : ℕ) where
+    pub groups-none : (i : ℕ) → count ≤ i → groupsBy (count - i) at count i ≡ Pass
+    unfolding groupsBy
+    groups-none i h =
+        let e : count - i ≡ 0 = omega arith in
+        rw e
 
--- ---- row counts: each is at most the number of AVPs seen
+    -- the AVP at the position, with what its members go by and what that says
+    pub groups-next : (i : ℕ) → i < count → (m : Members) (o : Outcome) → m ≡ membersOf (definitionAt dictionary (at i .entry))
+        → o ≡ groupBy at count i m → groupsBy (count - i) at count i ≡ orElse o (groupsBy (count - (i + 1)) at count (i + 1))
+    unfolding groupsBy
+    groups-next i h m o p q =
+        let e : count - i ≡ suc (count - (i + 1)) = omega arith in
+        rw (e, q, p)
 
-set-at-most : (l : List ℕ) (r v n k : ℕ) → ((j : ℕ) → getD l j 0 ≤ n) → v ≤ n → getD (set l r v) k 0 ≤ n
-set-at-most [] r v n k h hv = h k
-set-at-most (x ∷ l) zero v n zero h hv = hv
-set-at-most (x ∷ l) zero v n (suc k) h hv = h (suc k)
-set-at-most (x ∷ l) (suc r) v n zero h hv = h 0
-set-at-most (x ∷ l) (suc r) v n (suc k) h hv = set-at-most l r v n k (λ j. h (suc j)) hv
+    -- ---- the command's list, then the groups
 
-pub counted-at-most : (counts : List ℕ) (a : Admission) (n : ℕ) → ((j : ℕ) → getD counts j 0 ≤ n)
-    → (k : ℕ) → getD (counted counts a) k 0 ≤ n + 1
-counted-at-most counts (ByRow row mark) n h k =
-    set-at-most counts row (getD counts row 0 + 1) (n + 1) k (λ j. omega (arith, h j)) (omega (arith, h row))
-counted-at-most counts NoRow n h k = omega (arith, h k)
-
-zeros-at-most : (n k : ℕ) → getD (replicate n 0) k 0 ≤ 0
-zeros-at-most zero k = omega arith
-zeros-at-most (suc n) zero = omega arith
-zeros-at-most (suc n) (suc k) = zeros-at-most n k
-
-pub none-met : (k : ℕ) → getD noneMet k 0 ≤ 0
-none-met = zeros-at-most 24
+    pub rows-next : (g : Grammar) (end : ℕ) (o : Outcome) → o ≡ listBy at g end 0 count
+        → orElse o (groupsBy count at count 0) ≡ rowsBy at g end count
+    unfolding rowsBy
+    rows-next g end o e = rw e

@@ -1,4 +1,5 @@
 -- What the row checks' own contracts name.
-pub mod Required
+pub mod ByLog
+pub mod Firsts
+pub mod Tables
 pub mod Counts
-pub mod Groups

@@ -1,18 +1,18 @@
 // The row checks over a lent log (01, Order of checks, Rows): the command's list, then each group in walk order; within
-// a list the members in order, then the first missing row. What a list's rows are stands in `admitted` and
-// `requirements`.
+// a list the members in order, then the first missing row. The log has the number of each AVP's entry, by which its row
+// is looked up, and the position after its last descendant, where the next member of its list stands.
 ghost use mathlib.Core.Path.{_≡_};
 ghost use mathlib.Core.Bool.{cond};
-ghost use Prim.Native.Nat.{_+_, _≤_, _<_};
-ghost use lib.ListN.{drop};
-ghost use Rattle.rules.specs.Verdict.{verdictOf, Answers};
+ghost use Prim.Native.Nat.{_≤_, min};
 ghost use Rattle.rules.specs.Rows.{admitsOthers};
-ghost use Rattle.rules.specs.Dictionary.{dictionary};
-ghost use Rattle.rules.specs.RowChecks.{countedAt, memberFault, listOutcome, groupsOutcome, rowsOutcome};
+ghost use Rattle.rules.specs.RowChecks.{countedAt, memberFault};
 ghost use Rattle.rules.specs.Walk.{mostAvps};
-ghost use Rattle.log.specs.Log.{avpOf, avpsIn};
-ghost use Rattle.rows.specs.Counts.{HasRoom};
-ghost use Rattle.rows.specs.Groups.{groupAt};
+ghost use Rattle.log.specs.Log.{loggedOf};
+ghost use Rattle.rows.specs.ByLog.{groupsBy};
+ghost use Rattle.rows.specs.Counts.{HasRoom, gain};
+ghost use Rattle.rows.specs.Firsts.{noted, ListJudged, RowsJudged};
+ghost use Rattle.rows.specs.Tables.{Lent};
+use dictionary::kinds;
 use rules::Admission;
 use rules::Avp;
 use rules::Grammar;
@@ -20,18 +20,35 @@ use rules::Members;
 use rules::Outcome;
 use rules::limits;
 
+mod admission_table;
 mod admitted;
 mod faults;
+mod lists;
 mod requirements;
+mod row_table;
 
-// The row counts with one more member of a row.
-fn counted(counts: [u16; 24], row: usize) -> [u16; 24]
-    requires place { ⌜ row < 24 ⌝ }
-    requires room { ⌜ HasRoom counts ⌝ }
+// What the count at a place gains by a member of a row.
+fn gain(k: usize, row: usize) -> u16
+    ensures { λ r. ⌜ (r ≡ gain k row) × (r ≤ 1) ⌝ }
+{
+    if k == row {
+        return 1;
+    }
+    0
+}
+
+// The row counts with one more member of a row. Every place is stored, since one store of two octets would hold up the
+// copy of them all that follows.
+fn counted(counts: [u16; lists::ROW_PLACES], row: usize) -> [u16; lists::ROW_PLACES]
+    requires { ⌜ HasRoom counts ⌝ }
     ensures { λ r. ⌜ r ≡ countedAt counts row ⌝ }
 {
     let mut more = counts;
-    more[row] = more[row] + 1;
+    let mut k: usize = 0;
+    while k < lists::ROW_PLACES {
+        more[k] = counts[k] + gain(k, row);
+        k += 1;
+    }
     more
 }
 
@@ -45,33 +62,50 @@ fn without_row(grammar: Grammar, a: Avp) -> Outcome
     avp::member_fault(5008, a)
 }
 
-// The list at a depth whose members follow from a position on, up to the first AVP above that depth; deeper ones belong
-// to its groups.
+fn least(a: u16, b: u16) -> u16
+    ensures { λ r. ⌜ r ≡ min a b ⌝ }
+{
+    if a < b {
+        return a;
+    }
+    b
+}
+
+// Keeps the first position of an entry, with a member at a position.
+fn note(firsts: &mut [u16; kinds::ENTRIES], entry: u8, position: u16)
+    ensures { λ _. ⌜ now (firsts .exit) ≡ noted (now (firsts .entry)) entry position ⌝ }
+{
+    if kinds::NO_ENTRY <= entry {
+        return;
+    }
+    let place = entry as usize;
+    firsts[place] = least(firsts[place], position);
+}
+
+// The list whose members stand from one position on and before another. The first position of each entry is kept for the
+// exchange rules.
 fn list_outcome(
     log: &[u32; limits::LOG_NUMBERS],
     from: usize,
-    count: usize,
+    to: usize,
+    admissions: &[u8; admission_table::NUMBERS],
+    rows: &[u8; row_table::NUMBERS],
     grammar: Grammar,
-    depth: usize,
     end: u32,
+    firsts: &mut [u16; kinds::ENTRIES],
 ) -> Outcome
-    requires { ⌜ count ≤ mostAvps ⌝ }
-    ensures { λ r. ⌜ r ≡ listOutcome grammar depth end (drop from (avpsIn (now (log .entry)) count)) ⌝ }
+    requires { ⌜ Lent to (now admissions) (now rows) ⌝ }
+    ensures { λ r. ⌜ ListJudged (loggedOf (now (log .entry))) grammar end from to (now (firsts .entry)) r (now (firsts .exit)) ⌝ }
 {
-    let mut counts = [0u16; 24];
+    let mut counts = [0u16; lists::ROW_PLACES];
     let mut first = true;
     let mut i = from;
-    while i < count {
+    while i < to {
         let a = log::get(log, i);
-        let level = a.depth as usize;
-        if level < depth {
-            return requirements::missing_row(grammar, &counts, end);
-        }
-        i += 1;
-        if depth < level {
-            continue;
-        }
-        let Admission::ByRow { row, mark } = admitted::row_of(grammar, a.vendor, a.code) else {
+        let entry = log::entry_at(log, i);
+        note(firsts, entry, i as u16);
+        i = log::after_at(log, i);
+        let Admission::ByRow { row, mark } = admitted::row_of(admissions, grammar, entry) else {
             let other = without_row(grammar, a);
             let Outcome::Pass = other else {
                 return other;
@@ -87,48 +121,63 @@ fn list_outcome(
         counts = more;
         first = false;
     }
-    requirements::missing_row(grammar, &counts, end)
+    requirements::missing_row(rows, grammar, &counts, end)
 }
 
-// The AVP at a position with those after it: where it is a group, its list.
-fn group_outcome(log: &[u32; limits::LOG_NUMBERS], position: usize, count: usize) -> Outcome
-    requires { ⌜ (position < count) × (count ≤ mostAvps) ⌝ }
-    ensures { λ r. ⌜ r ≡ groupAt (avpOf (now (log .entry)) position) (drop (position + 1) (avpsIn (now (log .entry)) count)) ⌝ }
+fn lesser(a: usize, b: usize) -> usize
+    ensures { λ r. ⌜ r ≡ min a b ⌝ }
 {
-    let a = log::get(log, position);
-    let Members::Under(grammar) = dictionary::members(a.vendor, a.code) else {
-        return Outcome::Pass;
-    };
-    let depth = a.depth as usize;
-    let end = log::data_end(log, position);
-    list_outcome(log, position + 1, count, grammar, depth + 1, end)
+    if b < a {
+        return b;
+    }
+    a
 }
 
-// Each group in walk order.
-fn groups_outcome(log: &[u32; limits::LOG_NUMBERS], count: usize) -> Outcome
-    requires { ⌜ count ≤ mostAvps ⌝ }
-    ensures { λ r. ⌜ r ≡ groupsOutcome dictionary (avpsIn (now (log .entry)) count) ⌝ }
+// Each group in walk order: its list is the AVPs up to its last descendant. The first positions in it are not asked for.
+fn groups_outcome(
+    log: &[u32; limits::LOG_NUMBERS],
+    count: usize,
+    admissions: &[u8; admission_table::NUMBERS],
+    rows: &[u8; row_table::NUMBERS],
+) -> Outcome
+    requires { ⌜ Lent count (now admissions) (now rows) ⌝ }
+    ensures { λ r. ⌜ r ≡ groupsBy count (loggedOf (now (log .entry))) count 0 ⌝ }
 {
+    let mut firsts = [0u16; kinds::ENTRIES];
     let mut i: usize = 0;
     while i < count {
-        let outcome = group_outcome(log, i, count);
+        let position = i;
+        i += 1;
+        let Members::Under(grammar) = dictionary::members_of(log::entry_at(log, position)) else {
+            continue;
+        };
+        let to = lesser(log::after_at(log, position), count);
+        let end = log::data_end(log, position);
+        let outcome = list_outcome(log, i, to, admissions, rows, grammar, end, &mut firsts);
         if let Outcome::Refused(_) = outcome {
             return outcome;
         }
-        i += 1;
     }
     Outcome::Pass
 }
 
 // The row checks of a command whose AVPs stand in a log with this count, above 256 read as 256, and whose own list ends
-// at `end`.
-pub fn judge(log: &[u32; limits::LOG_NUMBERS], count: usize, grammar: Grammar, end: u32) -> Outcome
-    ensures { λ r. ⌜ Answers verdictOf (rowsOutcome dictionary grammar end (avpsIn (now (log .entry)) count)) r ⌝ }
+// at `end`. In `firsts` the first position of each entry in that list is kept.
+pub fn judge(
+    log: &[u32; limits::LOG_NUMBERS],
+    count: usize,
+    grammar: Grammar,
+    end: u32,
+    firsts: &mut [u16; kinds::ENTRIES],
+) -> Outcome
+    ensures { λ r. ⌜ RowsJudged (loggedOf (now (log .entry))) grammar end (min count mostAvps) (now (firsts .entry)) r (now (firsts .exit)) ⌝ }
 {
+    let admissions = admission_table::table();
+    let rows = row_table::table();
     let used = log::used(count);
-    let own = list_outcome(log, 0, used, grammar, 1, end);
+    let own = list_outcome(log, 0, used, &admissions, &rows, grammar, end, firsts);
     if let Outcome::Refused(_) = own {
         return own;
     }
-    groups_outcome(log, used)
+    groups_outcome(log, used, &admissions, &rows)
 }

@@ -1,61 +1,92 @@
--- `rows::requirements::missing_row` meets its contract. The invariant says what is left: the required rows from `k` on.
+-- `rows::requirements::missing_row` meets its contract. The invariant says what is left: the rows from `k` on.
 use borrow.Author.Needs.{needs}
-use mathlib.Core.Path.{_≡_, sym, _∙_}
-use Prim.Native.Nat.{_-_, _<_}
+use mathlib.Core.Path.{_≡_, refl, sym, _∙_}
+use mathlib.Core.Bool.{Bool, true, false}
+use Prim.Native.Nat.{_+_, _-_, _*_, _%_, _≤_}
 use native.Mathlib.Omega.{arith}
-use lib.ListN.{drop}
+use lib.ListN.{getD}
+use Rattle.rules.specs.Verdict.{refused, refuseIf}
+use Rattle.rules.specs.Dictionary.{dictionary}
 use Rattle.rules.specs.RowChecks.{missing}
-use Rattle.rows.specs.Required.{requiredOf, missingAmong}
-use Rattle.rows.proofs.Rows.{required-below, missing-first, missing-here, missing-later, missing-no-more, missing-past}
+use Rattle.dictionary.specs.Entries.{vendorOf, codeOf}
+use Rattle.rows.proofs.Tables.{missingIn, missing-first, missing-end, missing-next, missing-past}
 use Rattle.rows.proofs.requirements.missing_row.Statement.{statement}
 use Rattle.rows.proofs.requirements.missing_row.Tie as tie
 
 abbrev Inv-loop : tie.InvT-loop
-Inv-loop grammar counts end k₀ k = missingAmong (drop k (requiredOf grammar)) counts end ≡ missing grammar counts end
+Inv-loop table counts end from k₀ k = (from + 24 ≤ 192) × (missingIn table counts end from k ≡ missingIn table counts end from 0)
 
 abbrev μ-loop : tie.MeasureT-loop
-μ-loop grammar counts end k₀ k = 24 - k
+μ-loop table counts end from k₀ k = 24 - k
+
+list-index-requires : tie.Need-list-index-requires Inv-loop μ-loop
+list-index-requires c κs = search needs
+
+mul-from : tie.Need-mul-from Inv-loop μ-loop
+mul-from c = omega (arith, c .list-index .ensures .below)
 
 loop-holds : tie.Need-loop-holds Inv-loop μ-loop
-loop-holds c = sym (missing-first _ _ _)
+loop-holds c = (omega (arith, c .list-index .ensures .below), refl)
 
-required-requires : tie.Need-required-requires Inv-loop μ-loop
-required-requires c κs = search needs
+add-number : tie.Need-add-number Inv-loop μ-loop
+add-number c = omega (arith, c .before .loop .inv .0)
 
-enum-known-next : tie.Need-enum-known-next Inv-loop μ-loop
-enum-known-next c = search needs
+element-copy-out-number : tie.Need-element-copy-out-number Inv-loop μ-loop
+element-copy-out-number c = omega (arith, c .before .loop .inv .0)
 
-enum-told : tie.Need-enum-told Inv-loop μ-loop
-enum-told c = search needs
+-- what is asked, with what is left
+left : (c : tie.At-loop Inv-loop μ-loop) →
+    let s = c .before .before .args in
+    missingIn (s .table .now) (s .counts .now) (s .end) (c .before .list-index .result * 24) (c .loop .k)
+    ≡ missing (s .grammar) (s .counts .now) (s .end)
+left c =
+    let s = c .before .before in
+    let n = c .before .list-index in
+    c .loop .inv .1 ∙ missing-first _ _ _ _ (s .pre) (s .args .grammar) (n .result) (n .ensures) refl
 
 returns : tie.Need-returns Inv-loop μ-loop
 returns c =
-    let r = c .before .before in
-    sym (missing-no-more _ _ _ (r .before .before .loop .k) (sym (c .enum-told .given .1) ∙ r .required .ensures))
-    ∙ r .before .before .loop .inv
+    let l = c .before .before .before in
+    sym (missing-end _ _ _ _ (l .loop .k) (c .before .before .loop-test .taken) (c .if1 .taken)) ∙ left l
 
-row-below : (c : tie.After-known-told Inv-loop μ-loop) → c .before .next .given .0 .0 < 24
-row-below c =
-    let r = c .before .before .before in
-    required-below _ _ _ _ _ (sym (r .required .ensures) ∙ c .before .next .given .1)
+mul-is-missing : tie.Need-mul-is-missing Inv-loop μ-loop
+mul-is-missing c = search needs
 
-mul-if1 : tie.Need-mul-if1 Inv-loop μ-loop
-mul-if1 c = omega (arith, row-below c)
+element-copy-out-is-missing : tie.Need-element-copy-out-is-missing Inv-loop μ-loop
+element-copy-out-is-missing c = search needs
 
-element-copy-out-if1 : tie.Need-element-copy-out-if1 Inv-loop μ-loop
-element-copy-out-if1 c = omega (arith, row-below c)
+is-missing-requires : tie.Need-is-missing-requires Inv-loop μ-loop
+is-missing-requires c κs = search needs
+
+vendor-of-requires : tie.Need-vendor-of-requires Inv-loop μ-loop
+vendor-of-requires c κs = search needs
+
+code-of-requires : tie.Need-code-of-requires Inv-loop μ-loop
+code-of-requires c κs = search needs
 
 refusal-requires : tie.Need-refusal-requires Inv-loop μ-loop
 refusal-requires c κs = search needs
 
+-- what is left, with what the row at the place says
+next : (c : tie.After-is-missing Inv-loop μ-loop) (here : Bool) → c .is-missing .result ≡ here →
+    let l = c .before .before .before .before .before in
+    let s = l .before .before .args in
+    let from = l .before .list-index .result * 24 in
+    let entry = getD (s .table .now) (from + l .loop .k) 0 % 64 in
+    missingIn (s .table .now) (s .counts .now) (s .end) from (l .loop .k)
+    ≡ refuseIf here (refused 5005 (s .end) (vendorOf dictionary entry) (codeOf dictionary entry))
+    (missingIn (s .table .now) (s .counts .now) (s .end) from (l .loop .k + 1))
+next c here e =
+    let n = c .before .before in
+    missing-next _ _ _ _ (n .before .before .before .loop .k) (n .before .before .loop-test .taken) (n .if1 .left) here
+    (sym (c .is-missing .ensures) ∙ e)
+
 returns-2 : tie.Need-returns-2 Inv-loop μ-loop
 returns-2 c =
-    let n = c .before .before .before .before in
-    let r = n .before .before in
-    let l = r .before .before .loop in
+    let m = c .before .before .before .before in
     c .refusal .ensures .is
-    ∙ sym (missing-here _ _ _ (l .k) _ _ _ (sym (n .next .given .1) ∙ r .required .ensures) (c .before .if1 .taken))
-    ∙ l .inv
+    ∙ rw (c .before .before .vendor-of .ensures, c .before .code-of .ensures)
+    (sym (next m true (c .before .before .before .if2 .taken)) ∙ left (m .before .before .before .before .before))
 
 add-k : tie.Need-add-k Inv-loop μ-loop
 add-k c = omega arith
@@ -65,13 +96,11 @@ loop-less c = omega arith
 
 loop-again : tie.Need-loop-again Inv-loop μ-loop
 loop-again c =
-    let n = c .before .before .before in
-    let r = n .before .before in
-    let l = r .before .before .loop in
-    sym (missing-later _ _ _ (l .k) _ _ _ (sym (n .next .given .1) ∙ r .required .ensures) (c .if1 .left)) ∙ l .inv
+    let inv = c .before .before .before .before .before .before .loop .inv in
+    (inv .0, sym (next (c .before) false (c .if2 .left)) ∙ inv .1)
 
 returns-3 : tie.Need-returns-3 Inv-loop μ-loop
-returns-3 c = sym (missing-past _ _ _ (c .before .loop .k) (c .loop-test .left)) ∙ c .before .loop .inv
+returns-3 c = sym (missing-past _ _ _ _ (c .before .loop .k) (c .loop-test .left)) ∙ left (c .before)
 
 pub missing-row-spec : {M : Type 1} → statement M
 missing-row-spec =
@@ -79,13 +108,17 @@ missing-row-spec =
     (tie.spec
     Inv-loop
     μ-loop
+    list-index-requires
+    mul-from
     loop-holds
-    required-requires
-    enum-known-next
-    enum-told
+    add-number
+    element-copy-out-number
     returns
-    mul-if1
-    element-copy-out-if1
+    mul-is-missing
+    element-copy-out-is-missing
+    is-missing-requires
+    vendor-of-requires
+    code-of-requires
     refusal-requires
     returns-2
     add-k
