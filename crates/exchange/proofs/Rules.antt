@@ -13,13 +13,14 @@ use Rattle.rules.specs.Octets.{numberAt}
 use Rattle.rules.specs.Verdict.{refused, orElse}
 use Rattle.rules.specs.Avp.{endOf}
 use Rattle.rules.specs.RowChecks.{memberFault}
-use Rattle.rules.specs.Search.{avpIn, firstFrom, search as searched, member}
+use Rattle.rules.specs.Search.{avpIn, firstFrom, member}
 use Rattle.rules.specs.Exchange.{present, require, direction, volume, totalAlone, firstRequest, byRequestType, requestOutcome}
 use Rattle.rules.specs.Exchange.{resultBy, resultOutcome, policiesOutcome, windowBy, windowOutcome, eachPolicy, eachWindow}
 use Rattle.rules.proofs.Outcomes.{or-pass, or-assoc}
 use Rattle.log.specs.Log.{avpOf, avpsIn}
 use Rattle.log.proofs.Log.{avps-cons, avps-end}
 use Rattle.rules.specs.Exchange.{policyAt, timesBy, windowAt}
+use Rattle.exchange.specs.Positions.{volumes}
 
 -- ---- an AVP that must be there
 
@@ -32,46 +33,42 @@ module _ (end vendor code : ℕ) (f : Found) where
 
 -- ---- requests
 
-module _ (xs : List Avp) where
-  pub direction-input : (i : ℕ) → searched xs 0 412 ≡ At i → At i ≡ direction xs
+module _ (find : ℕ → ℕ → Found) where
+  pub direction-input : (i : ℕ) → find 0 412 ≡ At i → At i ≡ direction find
   unfolding direction
   direction-input i e = rw e
 
-  pub direction-output : searched xs 0 412 ≡ Nothing → searched xs 0 414 ≡ direction xs
+  pub direction-output : find 0 412 ≡ Nothing → find 0 414 ≡ direction find
   unfolding direction
   direction-output e = rw e
 
-module _ (xs : List Avp) (end : ℕ) where
-  -- a volume, then the total alone
-  abbrev pub volumes : Outcome
-  volumes = orElse (volume xs end) (totalAlone xs)
-
-  pub no-total : searched xs 0 421 ≡ Nothing → present end 0 414 (direction xs) ≡ volumes
+module _ (find : ℕ → ℕ → Found) (xs : List Avp) (end : ℕ) where
+  pub no-total : find 0 421 ≡ Nothing → present end 0 414 (direction find) ≡ volumes find xs end
   unfolding volume totalAlone
-  no-total e = rw e (sym (or-pass (present end 0 414 (direction xs))))
+  no-total e = rw e (sym (or-pass (present end 0 414 (direction find))))
 
-  module _ (i : ℕ) (e : searched xs 0 421 ≡ At i) where
-    pub total-only : direction xs ≡ Nothing → Pass ≡ volumes
+  module _ (i : ℕ) (e : find 0 421 ≡ At i) where
+    pub total-only : direction find ≡ Nothing → Pass ≡ volumes find xs end
     unfolding volume totalAlone
     total-only d = rw (e, d)
 
-    pub total-beside : (j : ℕ) → direction xs ≡ At j → memberFault 5008 (avpIn xs i) ≡ volumes
+    pub total-beside : (j : ℕ) → direction find ≡ At j → memberFault 5008 (avpIn xs i) ≡ volumes find xs end
     unfolding volume totalAlone
     total-beside j d = rw (e, d)
 
-  pub first-order : orElse (require xs end 10415 532)
-      (orElse volumes (orElse (require xs end 10415 4209) (require xs end 10415 4204)))
-      ≡ firstRequest xs end
+  pub first-order : orElse (require find end 10415 532)
+      (orElse (volumes find xs end) (orElse (require find end 10415 4209) (require find end 10415 4204)))
+      ≡ firstRequest find xs end
   unfolding firstRequest
-  first-order = ap (orElse (require xs end 10415 532)) (or-assoc (volume xs end) (totalAlone xs) _)
+  first-order = ap (orElse (require find end 10415 532)) (or-assoc (volume find end) (totalAlone find xs) _)
 
   module _ (s : List ℕ) where
-    pub request-typed : (i : ℕ) → searched xs 10415 4203 ≡ At i
-        → byRequestType xs end (numberAt 4 s (avpIn xs i .start)) ≡ requestOutcome xs s end
+    pub request-typed : (i : ℕ) → find 10415 4203 ≡ At i
+        → byRequestType find xs end (numberAt 4 s (avpIn xs i .start)) ≡ requestOutcome find xs s end
     unfolding requestOutcome
     request-typed i e = rw e
 
-    pub request-untyped : searched xs 10415 4203 ≡ Nothing → refused 5005 end 10415 4203 ≡ requestOutcome xs s end
+    pub request-untyped : find 10415 4203 ≡ Nothing → refused 5005 end 10415 4203 ≡ requestOutcome find xs s end
     unfolding requestOutcome
     request-untyped e = rw e
 
@@ -81,37 +78,37 @@ resultBy-plain : (xs : List Avp) (end : ℕ) (f : Found) → present end 0 268 f
 resultBy-plain xs end (At i) = refl
 resultBy-plain xs end Nothing = refl
 
-module _ (xs : List Avp) (end : ℕ) where
-  pub result-plain : searched xs 0 297 ≡ Nothing → require xs end 0 268 ≡ resultOutcome xs end
+module _ (find : ℕ → ℕ → Found) (xs : List Avp) (end : ℕ) where
+  pub result-plain : find 0 297 ≡ Nothing → require find end 0 268 ≡ resultOutcome find xs end
   unfolding resultOutcome
-  result-plain e = resultBy-plain xs end (searched xs 0 268) ∙ rw e
+  result-plain e = resultBy-plain xs end (find 0 268) ∙ rw e
 
-  pub result-experimental : (j : ℕ) → searched xs 0 297 ≡ At j → searched xs 0 268 ≡ Nothing → Pass ≡ resultOutcome xs end
+  pub result-experimental : (j : ℕ) → find 0 297 ≡ At j → find 0 268 ≡ Nothing → Pass ≡ resultOutcome find xs end
   unfolding resultOutcome
   result-experimental j e d = rw (e, d)
 
-  pub result-both : (i j : ℕ) → searched xs 0 297 ≡ At j → searched xs 0 268 ≡ At i
-      → memberFault 5008 (avpIn xs j) ≡ resultOutcome xs end
+  pub result-both : (i j : ℕ) → find 0 297 ≡ At j → find 0 268 ≡ At i
+      → memberFault 5008 (avpIn xs j) ≡ resultOutcome find xs end
   unfolding resultOutcome
   result-both i j e d = rw (e, d)
 
-  pub no-policy : searched xs 10415 4207 ≡ Nothing → Pass ≡ policiesOutcome xs end
+  pub no-policy : find 10415 4207 ≡ Nothing → Pass ≡ policiesOutcome find xs end
   unfolding policiesOutcome
   no-policy e = rw e
 
-  module _ (i : ℕ) (e : searched xs 10415 4207 ≡ At i) where
-    pub policy-unreferenced : (o : Outcome) (v : Verdict) → o ≡ require xs end 10415 4202 → o ≡ Refused v
-        → o ≡ policiesOutcome xs end
+  module _ (i : ℕ) (e : find 10415 4207 ≡ At i) where
+    pub policy-unreferenced : (o : Outcome) (v : Verdict) → o ≡ require find end 10415 4202 → o ≡ Refused v
+        → o ≡ policiesOutcome find xs end
     unfolding policiesOutcome
     policy-unreferenced o v d r = rw (e, sym d ∙ r) r
 
-    module _ (d : require xs end 10415 4202 ≡ Pass) where
-      pub one-policy : firstFrom (i + 1) 0 1 (drop (i + 1) xs) 10415 4207 ≡ Nothing → Pass ≡ policiesOutcome xs end
+    module _ (d : require find end 10415 4202 ≡ Pass) where
+      pub one-policy : firstFrom (i + 1) 0 1 (drop (i + 1) xs) 10415 4207 ≡ Nothing → Pass ≡ policiesOutcome find xs end
       unfolding policiesOutcome
       one-policy f = rw (e, d, f)
 
       pub more-policies : (j : ℕ) → firstFrom (i + 1) 0 1 (drop (i + 1) xs) 10415 4207 ≡ At j
-          → require xs end 10415 2207 ≡ policiesOutcome xs end
+          → require find end 10415 2207 ≡ policiesOutcome find xs end
       unfolding policiesOutcome
       more-policies j f = rw (e, d, f)
 

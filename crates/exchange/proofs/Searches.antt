@@ -36,10 +36,10 @@ module _ (a : Avp) (vendor code depth : ℕ) where
 
 -- ---- the answer
 
-found-at : (f : Found) (count i : ℕ) → i < count → f ≡ At i → FoundBelow f count (At i)
+pub found-at : (f : Found) (count i : ℕ) → i < count → f ≡ At i → FoundBelow f count (At i)
 found-at f count i h e = record { is = sym e; used = λ j p. let q : i ≡ j = cc in omega arith }
 
-found-nothing : (f : Found) (count : ℕ) → f ≡ Nothing → FoundBelow f count Nothing
+pub found-nothing : (f : Found) (count : ℕ) → f ≡ Nothing → FoundBelow f count Nothing
 found-nothing f count e = record { is = sym e; used = λ j p. let z : _≡_ {A = ℕ} 0 1 = cc in absurd (omega arith) }
 
 -- what a search from a position of the log on gives

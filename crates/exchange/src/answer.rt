@@ -6,6 +6,7 @@ ghost use Rattle.rules.specs.Walk.{mostAvps};
 ghost use Rattle.log.specs.Log.{avpOf, avpsIn};
 ghost use Rattle.rules.specs.Exchange.{heldBy, policyAt};
 ghost use Rattle.exchange.specs.Positions.{Position};
+ghost use Rattle.exchange.specs.Firsts.{findIn};
 use crate::search::end_at;
 use crate::search::first;
 use crate::search::is_at;
@@ -14,6 +15,7 @@ use crate::search::present;
 use crate::search::require;
 use crate::search::search;
 use avp::member_fault;
+use dictionary::kinds;
 use dictionary::kinds::ExperimentalResult;
 use dictionary::kinds::PcrfAddress;
 use dictionary::kinds::RatingGroup;
@@ -26,33 +28,38 @@ use rules::Outcome;
 use rules::limits;
 
 // Result-Code or Experimental-Result, and not both.
-fn result_outcome(log: &[u32; limits::LOG_NUMBERS], count: usize, end: u32) -> Outcome
+fn result_outcome(
+    log: &[u32; limits::LOG_NUMBERS],
+    firsts: &[u16; kinds::ENTRIES],
+    count: usize,
+    end: u32,
+) -> Outcome
     requires { ⌜ count ≤ mostAvps ⌝ }
-    ensures { λ r. ⌜ r ≡ resultOutcome (avpsIn (now (log .entry)) count) end ⌝ }
+    ensures { λ r. ⌜ r ≡ resultOutcome (findIn (now (firsts .entry)) count) (avpsIn (now (log .entry)) count) end ⌝ }
 {
-    let Found::At(i) = search(
-        log,
-        count,
-        ExperimentalResult::VENDOR,
-        ExperimentalResult::CODE,
-    ) else {
-        return require(log, count, end, ResultCode::VENDOR, ResultCode::CODE);
+    let Found::At(i) = search(firsts, count, ExperimentalResult::ENTRY) else {
+        return require(firsts, count, end, ResultCode::ENTRY);
     };
-    let Found::At(_) = search(log, count, ResultCode::VENDOR, ResultCode::CODE) else {
+    let Found::At(_) = search(firsts, count, ResultCode::ENTRY) else {
         return Outcome::Pass;
     };
     member_fault(5008, log::get(log, i))
 }
 
 // With any policy a Reference-Id, with two or more a PCRF-Address.
-fn policies_outcome(log: &[u32; limits::LOG_NUMBERS], count: usize, end: u32) -> Outcome
+fn policies_outcome(
+    log: &[u32; limits::LOG_NUMBERS],
+    firsts: &[u16; kinds::ENTRIES],
+    count: usize,
+    end: u32,
+) -> Outcome
     requires { ⌜ count ≤ mostAvps ⌝ }
-    ensures { λ r. ⌜ r ≡ policiesOutcome (avpsIn (now (log .entry)) count) end ⌝ }
+    ensures { λ r. ⌜ r ≡ policiesOutcome (findIn (now (firsts .entry)) count) (avpsIn (now (log .entry)) count) end ⌝ }
 {
-    let Found::At(i) = search(log, count, TransferPolicy::VENDOR, TransferPolicy::CODE) else {
+    let Found::At(i) = search(firsts, count, TransferPolicy::ENTRY) else {
         return Outcome::Pass;
     };
-    let reference = require(log, count, end, ReferenceId::VENDOR, ReferenceId::CODE);
+    let reference = require(firsts, count, end, ReferenceId::ENTRY);
     let Outcome::Pass = reference else {
         return reference;
     };
@@ -67,7 +74,7 @@ fn policies_outcome(log: &[u32; limits::LOG_NUMBERS], count: usize, end: u32) ->
     ) else {
         return Outcome::Pass;
     };
-    require(log, count, end, PcrfAddress::VENDOR, PcrfAddress::CODE)
+    require(firsts, count, end, PcrfAddress::ENTRY)
 }
 
 // An AVP that the policy at a position must hold.
@@ -116,15 +123,20 @@ fn each_policy(log: &[u32; limits::LOG_NUMBERS], count: usize) -> Outcome
     Outcome::Pass
 }
 
-pub(crate) fn answer_outcome(log: &[u32; limits::LOG_NUMBERS], count: usize, end: u32) -> Outcome
+pub(crate) fn answer_outcome(
+    log: &[u32; limits::LOG_NUMBERS],
+    firsts: &[u16; kinds::ENTRIES],
+    count: usize,
+    end: u32,
+) -> Outcome
     requires { ⌜ count ≤ mostAvps ⌝ }
-    ensures { λ r. ⌜ r ≡ answerOutcome (avpsIn (now (log .entry)) count) end ⌝ }
+    ensures { λ r. ⌜ r ≡ answerOutcome (findIn (now (firsts .entry)) count) (avpsIn (now (log .entry)) count) end ⌝ }
 {
-    let result = result_outcome(log, count, end);
+    let result = result_outcome(log, firsts, count, end);
     let Outcome::Pass = result else {
         return result;
     };
-    let policies = policies_outcome(log, count, end);
+    let policies = policies_outcome(log, firsts, count, end);
     let Outcome::Pass = policies else {
         return policies;
     };

@@ -1,17 +1,19 @@
 // 01, Exchange rules of a request, by its Transfer-Request-Type.
 ghost use mathlib.Core.Path.{_≡_};
 ghost use Prim.Native.Nat.{_≤_};
-ghost use Rattle.rules.specs.Verdict.{orElse};
-ghost use Rattle.rules.specs.Exchange.{direction as directionOf, volume, totalAlone};
+ghost use Rattle.rules.specs.Exchange.{direction as directionOf};
 ghost use Rattle.rules.specs.Exchange.{firstRequest, laterRequest, byRequestType, requestOutcome};
 ghost use Rattle.rules.specs.Walk.{mostAvps};
 ghost use Rattle.log.specs.Log.{avpsIn};
+ghost use Rattle.exchange.specs.Positions.{volumes as volumesOf};
+ghost use Rattle.exchange.specs.Firsts.{findIn};
 use crate::search::number_of;
 use crate::search::present;
 use crate::search::require;
 use crate::search::search;
 use avp::member_fault;
 use avp::refusal;
+use dictionary::kinds;
 use dictionary::kinds::ApplicationServiceProviderIdentity;
 use dictionary::kinds::CcInputOctets;
 use dictionary::kinds::CcOutputOctets;
@@ -27,25 +29,29 @@ use rules::Outcome;
 use rules::limits;
 
 // The volume of a direction, uplink or downlink.
-fn direction(log: &[u32; limits::LOG_NUMBERS], count: usize) -> Found
-    requires { ⌜ count ≤ mostAvps ⌝ }
-    ensures { λ r. ⌜ r ≡ directionOf (avpsIn (now (log .entry)) count) ⌝ }
+fn direction(firsts: &[u16; kinds::ENTRIES], count: usize) -> Found
+    ensures { λ r. ⌜ r ≡ directionOf (findIn (now (firsts .entry)) count) ⌝ }
 {
-    let input = search(log, count, CcInputOctets::VENDOR, CcInputOctets::CODE);
+    let input = search(firsts, count, CcInputOctets::ENTRY);
     let Found::At(_) = input else {
-        return search(log, count, CcOutputOctets::VENDOR, CcOutputOctets::CODE);
+        return search(firsts, count, CcOutputOctets::ENTRY);
     };
     input
 }
 
 // One of three is enough; where none is there, CC-Output-Octets is missing. Request [2]: the total is not allowed
 // beside a direction.
-fn volumes(log: &[u32; limits::LOG_NUMBERS], count: usize, end: u32) -> Outcome
+fn volumes(
+    log: &[u32; limits::LOG_NUMBERS],
+    firsts: &[u16; kinds::ENTRIES],
+    count: usize,
+    end: u32,
+) -> Outcome
     requires { ⌜ count ≤ mostAvps ⌝ }
-    ensures { λ r. ⌜ r ≡ orElse (volume (avpsIn (now (log .entry)) count) end) (totalAlone (avpsIn (now (log .entry)) count)) ⌝ }
+    ensures { λ r. ⌜ r ≡ volumesOf (findIn (now (firsts .entry)) count) (avpsIn (now (log .entry)) count) end ⌝ }
 {
-    let direction = direction(log, count);
-    let Found::At(i) = search(log, count, CcTotalOctets::VENDOR, CcTotalOctets::CODE) else {
+    let direction = direction(firsts, count);
+    let Found::At(i) = search(firsts, count, CcTotalOctets::ENTRY) else {
         return present(direction, end, CcOutputOctets::VENDOR, CcOutputOctets::CODE);
     };
     let Found::At(_) = direction else {
@@ -55,68 +61,65 @@ fn volumes(log: &[u32; limits::LOG_NUMBERS], count: usize, end: u32) -> Outcome
 }
 
 // Transfer-Request-Type 0: the first request of a transfer.
-fn first_request(log: &[u32; limits::LOG_NUMBERS], count: usize, end: u32) -> Outcome
+fn first_request(
+    log: &[u32; limits::LOG_NUMBERS],
+    firsts: &[u16; kinds::ENTRIES],
+    count: usize,
+    end: u32,
+) -> Outcome
     requires { ⌜ count ≤ mostAvps ⌝ }
-    ensures { λ r. ⌜ r ≡ firstRequest (avpsIn (now (log .entry)) count) end ⌝ }
+    ensures { λ r. ⌜ r ≡ firstRequest (findIn (now (firsts .entry)) count) (avpsIn (now (log .entry)) count) end ⌝ }
 {
     let provider = require(
-        log,
+        firsts,
         count,
         end,
-        ApplicationServiceProviderIdentity::VENDOR,
-        ApplicationServiceProviderIdentity::CODE,
+        ApplicationServiceProviderIdentity::ENTRY,
     );
     let Outcome::Pass = provider else {
         return provider;
     };
-    let octets = volumes(log, count, end);
+    let octets = volumes(log, firsts, count, end);
     let Outcome::Pass = octets else {
         return octets;
     };
-    let number = require(log, count, end, NumberOfUes::VENDOR, NumberOfUes::CODE);
+    let number = require(firsts, count, end, NumberOfUes::ENTRY);
     let Outcome::Pass = number else {
         return number;
     };
-    require(log, count, end, TimeWindow::VENDOR, TimeWindow::CODE)
+    require(firsts, count, end, TimeWindow::ENTRY)
 }
 
 // Transfer-Request-Type 1: the policy is chosen.
-fn later_request(log: &[u32; limits::LOG_NUMBERS], count: usize, end: u32) -> Outcome
-    requires { ⌜ count ≤ mostAvps ⌝ }
-    ensures { λ r. ⌜ r ≡ laterRequest (avpsIn (now (log .entry)) count) end ⌝ }
+fn later_request(firsts: &[u16; kinds::ENTRIES], count: usize, end: u32) -> Outcome
+    ensures { λ r. ⌜ r ≡ laterRequest (findIn (now (firsts .entry)) count) end ⌝ }
 {
-    let reference = require(log, count, end, ReferenceId::VENDOR, ReferenceId::CODE);
+    let reference = require(firsts, count, end, ReferenceId::ENTRY);
     let Outcome::Pass = reference else {
         return reference;
     };
-    let policy = require(
-        log,
-        count,
-        end,
-        TransferPolicyId::VENDOR,
-        TransferPolicyId::CODE,
-    );
+    let policy = require(firsts, count, end, TransferPolicyId::ENTRY);
     let Outcome::Pass = policy else {
         return policy;
     };
-    require(
-        log,
-        count,
-        end,
-        DestinationHost::VENDOR,
-        DestinationHost::CODE,
-    )
+    require(firsts, count, end, DestinationHost::ENTRY)
 }
 
-fn by_request_type(log: &[u32; limits::LOG_NUMBERS], count: usize, end: u32, value: u32) -> Outcome
+fn by_request_type(
+    log: &[u32; limits::LOG_NUMBERS],
+    firsts: &[u16; kinds::ENTRIES],
+    count: usize,
+    end: u32,
+    value: u32,
+) -> Outcome
     requires { ⌜ count ≤ mostAvps ⌝ }
-    ensures { λ r. ⌜ r ≡ byRequestType (avpsIn (now (log .entry)) count) end value ⌝ }
+    ensures { λ r. ⌜ r ≡ byRequestType (findIn (now (firsts .entry)) count) (avpsIn (now (log .entry)) count) end value ⌝ }
 {
     if value == 0 {
-        return first_request(log, count, end);
+        return first_request(log, firsts, count, end);
     }
     if value == 1 {
-        return later_request(log, count, end);
+        return later_request(firsts, count, end);
     }
     Outcome::Pass
 }
@@ -124,18 +127,14 @@ fn by_request_type(log: &[u32; limits::LOG_NUMBERS], count: usize, end: u32, val
 pub(crate) fn request_outcome(
     s: &[u8],
     log: &[u32; limits::LOG_NUMBERS],
+    firsts: &[u16; kinds::ENTRIES],
     count: usize,
     end: u32,
 ) -> Outcome
     requires { ⌜ count ≤ mostAvps ⌝ }
-    ensures { λ r. ⌜ r ≡ requestOutcome (avpsIn (now (log .entry)) count) (now (s .entry)) end ⌝ }
+    ensures { λ r. ⌜ r ≡ requestOutcome (findIn (now (firsts .entry)) count) (avpsIn (now (log .entry)) count) (now (s .entry)) end ⌝ }
 {
-    let Found::At(i) = search(
-        log,
-        count,
-        TransferRequestType::VENDOR,
-        TransferRequestType::CODE,
-    ) else {
+    let Found::At(i) = search(firsts, count, TransferRequestType::ENTRY) else {
         return refusal(
             5005,
             end,
@@ -143,5 +142,5 @@ pub(crate) fn request_outcome(
             TransferRequestType::CODE,
         );
     };
-    by_request_type(log, count, end, number_of(s, log, i, count))
+    by_request_type(log, firsts, count, end, number_of(s, log, i, count))
 }

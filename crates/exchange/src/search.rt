@@ -1,17 +1,22 @@
-// Searches among the AVPs of a log, each in one pass, and what is read at a position that was found.
+// Searches: for the first AVP of a kind in the command's own list, by the positions that the row checks kept; for any
+// other, in one pass over the log; and what is read at a position that was found.
 ghost use mathlib.Core.Path.{_≡_};
 ghost use Prim.Native.Nat.{_≤_};
-ghost use lib.ListN.{drop};
+ghost use lib.ListN.{drop, getD};
 ghost use Rattle.rules.specs.Octets.{numberAt, IsNumber};
 ghost use Rattle.rules.specs.Avp.{endOf};
 ghost use Rattle.rules.specs.Search.{avpIn, firstFrom};
-ghost use Rattle.rules.specs.Search.{search as searched, member as memberOf};
+ghost use Rattle.rules.specs.Search.{member as memberOf};
 ghost use Rattle.rules.specs.Exchange.{present as presentBy, require as requireIn};
 ghost use Rattle.rules.specs.Walk.{mostAvps};
 ghost use Rattle.log.specs.Log.{avpOf, avpsIn};
 ghost use Rattle.rules.specs.Search.{isAt};
+ghost use Rattle.rules.specs.Dictionary.{dictionary};
+ghost use Rattle.dictionary.specs.Entries.{vendorOf, codeOf};
 ghost use Rattle.exchange.specs.Positions.{Position, FoundBelow};
+ghost use Rattle.exchange.specs.Firsts.{findIn};
 use avp::refusal;
+use dictionary::kinds;
 use rules::Found;
 use rules::Outcome;
 use rules::limits;
@@ -64,17 +69,31 @@ pub(crate) fn first(
     Found::Nothing
 }
 
-// The first AVP of the command's own list with a vendor and code.
-pub(crate) fn search(
-    log: &[u32; limits::LOG_NUMBERS],
-    count: usize,
-    vendor: u32,
-    code: u32,
-) -> Found
-    requires { ⌜ count ≤ mostAvps ⌝ }
-    ensures { λ r. ⌜ FoundBelow (searched (avpsIn (now (log .entry)) count) vendor code) count r ⌝ }
+fn position_of(first: u16) -> usize
+    ensures { λ r. ⌜ r ≡ first ⌝ }
 {
-    first(log, 0, count, 0, 1, vendor, code)
+    first as usize
+}
+
+// The first position of an entry; behind the last entry, a number that is no position.
+fn first_of(firsts: &[u16], entry: usize) -> usize
+    ensures { λ r. ⌜ r ≡ getD (now (firsts .entry)) entry mostAvps ⌝ }
+{
+    if firsts.len() <= entry {
+        return limits::MOST_AVPS;
+    }
+    position_of(firsts[entry])
+}
+
+// The first AVP of an entry's kind in the command's own list.
+pub(crate) fn search(firsts: &[u16; kinds::ENTRIES], count: usize, entry: u8) -> Found
+    ensures { λ r. ⌜ FoundBelow (findIn (now (firsts .entry)) count (vendorOf dictionary entry) (codeOf dictionary entry)) count r ⌝ }
+{
+    let i = first_of(firsts, entry as usize);
+    if i < count {
+        return Found::At(i);
+    }
+    Found::Nothing
 }
 
 // The first member with a vendor and code of the group at a position, whose members stand at this depth.
@@ -102,18 +121,17 @@ pub(crate) fn present(found: Found, end: u32, vendor: u32, code: u32) -> Outcome
     Outcome::Pass
 }
 
-// An AVP that the command's own list must have; `end` is the list's end.
-pub(crate) fn require(
-    log: &[u32; limits::LOG_NUMBERS],
-    count: usize,
-    end: u32,
-    vendor: u32,
-    code: u32,
-) -> Outcome
-    requires { ⌜ count ≤ mostAvps ⌝ }
-    ensures { λ r. ⌜ r ≡ requireIn (avpsIn (now (log .entry)) count) end vendor code ⌝ }
+// An AVP of an entry's kind that the command's own list must have; `end` is the list's end.
+pub(crate) fn require(firsts: &[u16; kinds::ENTRIES], count: usize, end: u32, entry: u8) -> Outcome
+    ensures { λ r. ⌜ r ≡ requireIn (findIn (now (firsts .entry)) count) end (vendorOf dictionary entry) (codeOf dictionary entry) ⌝ }
 {
-    present(search(log, count, vendor, code), end, vendor, code)
+    let found = search(firsts, count, entry);
+    present(
+        found,
+        end,
+        dictionary::vendor_of(entry),
+        dictionary::code_of(entry),
+    )
 }
 
 // The end of the data of the AVP at a position.

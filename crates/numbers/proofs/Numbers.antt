@@ -17,7 +17,7 @@ use Rattle.rules.specs.Search.{blank, avpIn}
 use Rattle.rules.specs.Command.{commandOutcome}
 use Rattle.rules.specs.Record.{emptyRecord, recordBy, reading}
 use Rattle.octets.proofs.Puts.{sets-append}
-use Rattle.log.proofs.Log.{bit-back}
+use Rattle.log.proofs.Kept.{bit-back}
 use Rattle.numbers.specs.Numbers.{headNumbers, avpNumbers, avpsNumbers, numbersOf, recordNumbers, numberedPlace, numberedAvpFrom, numberedAvp, numberedAvps, numberedCount, numberedRecord}
 
 -- ---- no AVP from position 256 on

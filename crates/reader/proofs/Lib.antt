@@ -1,3 +1,5 @@
--- The laws behind the reader's proofs: a record's places, and a command's checks in order.
+-- The laws behind the reader's proofs: a record's places, the search of the exchange rules, and a command's checks in
+-- order.
 mod Places
-pub mod Order
+mod Finds
+mod Order

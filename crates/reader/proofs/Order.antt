@@ -1,57 +1,151 @@
 -- A command's checks in order: its header, its walk, its lists; and what is read of it.
 use mathlib.Core.Path.{_≡_, refl, sym, ap, _∙_}
+use mathlib.Core.Bool.{Bool}
 use mathlib.Core.List.{List}
-use Prim.Native.Nat.{ℕ, _≤_}
+use Prim.Native.Nat.{ℕ, _+_, _≤_, min}
 use native.Mathlib.Omega.{arith}
 use borrow.Author.Tests.{le-ltb}
 use lib.ListN.{length}
+use Rattle.rules.specs.declared.Avp.{Avp}
 use Rattle.rules.specs.declared.Verdict.{Verdict}
+use Rattle.rules.specs.declared.Found.{Found}
+use Rattle.rules.specs.declared.Grammar.{Grammar}
 use Rattle.rules.specs.declared.Outcome.{Outcome}
 use Rattle.rules.specs.declared.Outcome.the-variants.{Pass, Refused}
 use Rattle.rules.specs.declared.Record.{Record}
 use Rattle.rules.specs.declared.Reading.{Reading}
-use Rattle.rules.specs.Verdict.{verdict, verdictOf}
-use Rattle.rules.specs.Header.{headerOutcome}
-use Rattle.rules.specs.Walk.{Walked, whole, stopped, avpsOf}
-use Rattle.rules.specs.Dictionary.{Entry, find, dictionary}
-use Rattle.rules.specs.Command.{ownList, walkBy, walkOf, listsOutcome, walkedOutcome, outcomeAfter, commandOutcome, commandVerdict}
+use Rattle.rules.specs.Verdict.{verdict, verdictOf, orElse}
+use Rattle.rules.specs.Header.{headerOutcome, commandFlags, isRequest}
+use Rattle.rules.specs.Search.{search as searched}
+use Rattle.rules.specs.Walk.{mostAvps, Walked, whole, stopped, avpsOf}
+use Rattle.rules.specs.Dictionary.{Entry, dictionary}
+use Rattle.rules.specs.RowChecks.{rowsOutcome}
+use Rattle.rules.specs.Exchange.{exchangeBy, exchangeOutcome}
+use Rattle.rules.specs.Command.{commandGrammar, ownList, walkBy, walkOf, listsOutcome, walkedOutcome, commandOutcome, commandVerdict}
 use Rattle.rules.specs.Record.{recordOf, emptyRecord, reading}
 use Rattle.rules.proofs.Outcomes.{refused-first, pass-first}
 use Rattle.rules.proofs.Header.{headed}
 use Rattle.rules.proofs.Walk.{never}
 use Rattle.dictionary.specs.Table.{IsTable, dictionaryBy}
-use Rattle.dictionary.proofs.Table.{table-same}
-use Rattle.log.specs.Log.{avpsIn, putAvps}
+use Rattle.dictionary.specs.Entries.{entryOf}
+use Rattle.dictionary.proofs.Table.{table-same, table-finds, entry-few}
+use Rattle.log.specs.Log.{putAll, loggedOf, avpsIn}
+use Rattle.log.specs.Families.{noneLogged, loggedFrom, Keeps, IsForest}
+use Rattle.log.proofs.Families.{logged-none, logged-same, kept-avps}
 use Rattle.walk.specs.declared.Walk.{Walk}
 use Rattle.walk.specs.declared.Walk.the-variants.{Whole, Stopped}
-use Rattle.walk.specs.Promise.{answerOf, commandWalk, CommandWalked}
+use Rattle.walk.specs.Promise.{answerOf, commandWalk, numberBy, CommandWalked}
 use Rattle.walk.proofs.Same.{walk-same}
+use Rattle.rows.specs.ByLog.{rowsBy}
+use Rattle.rows.proofs.Walked.{walked-rows}
+use Rattle.rows.proofs.Firsts.{first-positions}
+use Rattle.exchange.specs.Firsts.{findIn}
 use Rattle.reader.specs.declared.Judgement.{Judgement}
-use Rattle.reader.specs.Promise.{outcomeBy, metBy, logAfterBy, IsJudged}
+use Rattle.reader.proofs.Finds.{exchange-same, find-same}
+use Rattle.reader.specs.Promise.{firstsIn, listsIn, walkedIn, outcomeIn, metBy, logAfterBy, IsJudgedBy, logAfter, IsJudged}
 
 -- the outcome of a walk, by the answer that it gave
-walked-whole : (s : List ℕ) (w : Walked) (c : ℕ) → Whole c ≡ answerOf 0 w → walkedOutcome s w ≡ listsOutcome s (avpsOf w)
-walked-whole s (whole xs) c e = refl
-walked-whole s (stopped xs v) c e = let z : _≡_ {A = ℕ} 0 1 = cc in absurd (omega arith)
+walked-whole : (s log : List ℕ) (w : Walked) (c : ℕ) → Whole c ≡ answerOf 0 w → walkedIn s log w ≡ listsIn s log c
+walked-whole s log (whole xs) c e = let n : c ≡ 0 + length xs = cc in ap (listsIn s log) (omega (arith, n))
+walked-whole s log (stopped xs v) c e = let z : _≡_ {A = ℕ} 0 1 = cc in absurd (omega arith)
 
-walked-stopped : (s : List ℕ) (w : Walked) (v : Verdict) → Stopped v ≡ answerOf 0 w → walkedOutcome s w ≡ Refused v
-walked-stopped s (whole xs) v e = let z : _≡_ {A = ℕ} 0 1 = cc in absurd (omega arith)
-walked-stopped s (stopped xs u) v e = cc
+walked-stopped : (s log : List ℕ) (w : Walked) (c : ℕ) (v : Verdict) → Stopped c v ≡ answerOf 0 w → walkedIn s log w ≡ Refused v
+walked-stopped s log (whole xs) c v e = let z : _≡_ {A = ℕ} 0 1 = cc in absurd (omega arith)
+walked-stopped s log (stopped xs u) c v e = cc
 
-module _ (dict : List Entry) (s : List ℕ) where
+never-whole : {C : Type 0} (c : ℕ) (v : Verdict) (xs : List Avp) → Stopped c v ≡ answerOf 0 (whole xs) → C
+never-whole c v xs e = let z : _≡_ {A = ℕ} 0 1 = cc in absurd (omega arith)
+
+or-else-same : (o p q : Outcome) → (o ≡ Pass → p ≡ q) → orElse o p ≡ orElse o q
+or-else-same Pass p q h = h refl
+or-else-same (Refused v) p q h = refl
+
+-- ---- the right table
+
+module _ (table : List ℕ) (is : IsTable table) where
+  walks-same : (s : List ℕ) → walkBy (dictionaryBy table) s ≡ walkOf s
+  unfolding walkOf
+  walks-same s = walk-same (dictionaryBy table) dictionary (table-same table is) s (length s) (ownList s)
+
+  pub numbers-same : (vendor code : ℕ) → numberBy table vendor code ≡ entryOf dictionary vendor code
+  numbers-same vendor code =
+      let few = entry-few vendor code in
+      ap (λ (n : ℕ). min n 255) (table-finds table is vendor code) ∙ omega (arith, few)
+
+  met-same : (s : List ℕ) (o : Outcome) → metBy (dictionaryBy table) s o ≡ metBy dictionary s o
+  unfolding walkOf
+  met-same s Pass = ap avpsOf (walks-same s)
+  met-same s (Refused v) = refl
+
+  log-same : (s before : List ℕ) → logAfterBy (dictionaryBy table) (numberBy table) s before ≡ logAfter s before
+  unfolding logAfterBy logAfter
+  log-same s before =
+      ap (λ (xs : List Avp). putAll before 0 (loggedFrom (numberBy table) 0 xs)) (met-same s (headerOutcome s))
+      ∙ ap (putAll before 0) (logged-same (numberBy table) (entryOf dictionary) numbers-same 0 (metBy dictionary s (headerOutcome s)))
+
+  -- by the log of a whole walk the lists are judged as document 01 judges them
+  lists-same : (s log : List ℕ) (xs : List Avp) → length xs ≤ 256 → Keeps log (loggedFrom (numberBy table) 0 xs) → IsForest 1 xs
+      → listsIn s log (length xs) ≡ listsOutcome s xs
+  unfolding listsIn listsOutcome
+  lists-same s log xs few keeps forest =
+      let e : min (length xs) 256 ≡ length xs = omega arith in
+      let kept : Keeps log (loggedFrom (entryOf dictionary) 0 xs) =
+      rw (logged-same (numberBy table) (entryOf dictionary) numbers-same 0 xs) at keeps in
+      let finds =
+      find-same xs few (firstsIn log (length xs))
+      (λ vendor code known. first-positions xs forest few (loggedOf log) noneLogged kept vendor code mostAvps known) in
+      let g : Grammar = commandGrammar (commandFlags s) in
+      let request : Bool = isRequest (commandFlags s) in
+      let find : ℕ → ℕ → Found = findIn (firstsIn log (length xs)) (length xs) in
+      let rows : rowsBy (loggedOf log) g (length s) (min (length xs) 256) ≡ rowsOutcome dictionary g (length s) xs =
+      rw e (walked-rows xs forest (loggedOf log) noneLogged kept g (length s)) in
+      let few-find : ℕ → ℕ → Found = findIn (firstsIn log (min (length xs) 256)) (min (length xs) 256) in
+      let exchange : exchangeBy few-find request (avpsIn log (length xs)) s (length s) ≡ exchangeOutcome request xs s (length s) =
+      rw e
+      (ap (λ (ys : List Avp). exchangeBy find request ys s (length s)) (kept-avps (entryOf dictionary) log xs few kept)
+      ∙ exchange-same find (searched xs) finds request xs s (length s)) in
+      ap (λ (o : Outcome). orElse o (exchangeBy few-find request (avpsIn log (length xs)) s (length s))) rows
+      ∙ ap (orElse (rowsOutcome dictionary g (length s) xs)) exchange
+
+  walked-same : (s log : List ℕ) (w : Walked) → ((xs : List Avp) → w ≡ whole xs → listsIn s log (length xs) ≡ listsOutcome s xs)
+      → walkedIn s log w ≡ walkedOutcome s w
+  walked-same s log (whole xs) h = h xs refl
+  walked-same s log (stopped xs v) h = refl
+
+  outcome-same : (s log : List ℕ) → ((xs : List Avp) → headerOutcome s ≡ Pass → walkBy (dictionaryBy table) s ≡ whole xs
+      → (length xs ≤ 256) × Keeps log (loggedFrom (numberBy table) 0 xs) × IsForest 1 xs)
+      → outcomeIn (dictionaryBy table) s log ≡ commandOutcome s
+  unfolding outcomeIn commandOutcome
+  outcome-same s log h =
+      or-else-same (headerOutcome s) _ _
+      (λ pass.
+      walked-same s log (walkBy (dictionaryBy table) s)
+      (λ xs e. let k = h xs pass e in lists-same s log xs (k .0) (k .1) (k .2))
+      ∙ ap (walkedOutcome s) (walks-same s))
+
+-- ---- by any table
+
+octets : (table : List ℕ) (vendor code : ℕ) → numberBy table vendor code ≤ 255
+octets table vendor code = omega arith
+
+module _ (table s : List ℕ) where
+  abbrev dict : List Entry
+  dict = dictionaryBy table
+
   -- a refusal of the header is the answer, and the log is as it was
   pub judged-header : (before : List ℕ) (o : Outcome) {v : Verdict} → o ≡ headerOutcome s → o ≡ Refused v
-      → IsJudged dict s before (record { outcome = o; count = 0 }) before
-  unfolding outcomeBy logAfterBy
+      → IsJudgedBy table s before (record { outcome = o; count = 0 }) before
+  unfolding outcomeIn logAfterBy
   judged-header before o {v} e q =
       let r : headerOutcome s ≡ Refused v = sym e ∙ q in
-      let all : outcomeBy dict s ≡ Refused v = refused-first (headerOutcome s) (walkedOutcome s (walkBy dict s)) r ∙ r in
+      let all : outcomeIn dict s before ≡ Refused v = refused-first (headerOutcome s) (walkedIn s before (walkBy dict s)) r ∙ r in
       record {
         outcome = q ∙ sym all;
-        left = rw r;
-        long = λ p. never (sym all ∙ p);
-        few = λ p. never (sym all ∙ p);
-        avps = λ p. never (sym all ∙ p);
+        left = rw (r, logged-none (numberBy table) 0);
+        right = λ is. q ∙ sym all ∙ outcome-same table is s before (λ xs pass _. never (sym r ∙ pass));
+        long = λ p. never (sym q ∙ p);
+        few = λ p. never (sym q ∙ p);
+        avps = λ p. never (sym q ∙ p);
       }
 
   module _ (pass : headerOutcome s ≡ Pass) where
@@ -65,83 +159,83 @@ module _ (dict : List Entry) (s : List ℕ) where
     unfolding commandWalk
     walk-of = rw (le-ltb 16384 (length s) header-short)
 
-    outcome-of : outcomeBy dict s ≡ walkedOutcome s (walkBy dict s)
-    unfolding outcomeBy
-    outcome-of = pass-first (headerOutcome s) (walkedOutcome s (walkBy dict s)) pass
+    module _ (before after : List ℕ) (r : Walk) (w : CommandWalked dict (numberBy table) s before r after) where
+      outcome-of : outcomeIn dict s after ≡ walkedIn s after (walkBy dict s)
+      unfolding outcomeIn
+      outcome-of = pass-first (headerOutcome s) (walkedIn s after (walkBy dict s)) pass
 
-    module _ (before after : List ℕ) (r : Walk) (w : CommandWalked dict s before r after) where
       answered : r ≡ answerOf 0 (walkBy dict s)
       answered = rw walk-of at (w .answer)
 
-      left-by : after ≡ logAfterBy dict s before
+      left-by : after ≡ logAfterBy dict (numberBy table) s before
       unfolding logAfterBy
       left-by = rw pass (rw walk-of at (w .logged))
 
       -- the walk stopped at a fault
-      pub judged-stopped : (v : Verdict) → r ≡ Stopped v → IsJudged dict s before (record { outcome = Refused v; count = 0 }) after
-      judged-stopped v e =
-          let all : outcomeBy dict s ≡ Refused v = outcome-of ∙ walked-stopped s (walkBy dict s) v (sym e ∙ answered) in
+      pub judged-stopped : (c : ℕ) (v : Verdict) → r ≡ Stopped c v → IsJudgedBy table s before (record { outcome = Refused v; count = 0 }) after
+      judged-stopped c v e =
+          let stop = sym e ∙ answered in
+          let all : outcomeIn dict s after ≡ Refused v = outcome-of ∙ walked-stopped s after (walkBy dict s) c v stop in
           record {
             outcome = sym all;
             left = left-by;
-            long = λ p. never (sym all ∙ p);
-            few = λ p. never (sym all ∙ p);
-            avps = λ p. never (sym all ∙ p);
+            right = λ is. sym all ∙ outcome-same table is s after (λ xs _ u. never-whole c v xs (stop ∙ ap (answerOf 0) u));
+            long = λ p. never p;
+            few = λ p. never p;
+            avps = λ p. never p;
           }
 
       -- the walk is whole, and the lists are judged
-      pub judged-whole : (c : ℕ) → r ≡ Whole c → (o : Outcome) → o ≡ listsOutcome s (avpsIn after c)
-          → IsJudged dict s before (record { outcome = o; count = c }) after
+      pub judged-whole : (c : ℕ) → r ≡ Whole c → (o : Outcome) → o ≡ listsIn s after c
+          → IsJudgedBy table s before (record { outcome = o; count = c }) after
       judged-whole c e o q =
-          let back : avpsIn after c ≡ avpsOf (walkBy dict s) = rw walk-of at (w .read c e) in
+          let k = w .read c e in
+          let xs : List Avp = avpsOf (walkBy dict s) in
+          let number : c ≡ length xs = rw walk-of at (k .number) in
+          let kept : Keeps after (loggedFrom (numberBy table) 0 xs) = rw walk-of at (k .kept (octets table)) in
+          let forest : IsForest 1 xs = rw walk-of at (k .forest) in
+          let few = w .few c e in
+          let all : o ≡ outcomeIn dict s after = q ∙ sym (outcome-of ∙ walked-whole s after (walkBy dict s) c (sym e ∙ answered)) in
           record {
-            outcome = q ∙ ap (listsOutcome s) back ∙ sym (outcome-of ∙ walked-whole s (walkBy dict s) c (sym e ∙ answered));
+            outcome = all;
             left = left-by;
+            right = λ is. all ∙ outcome-same table is s after
+                (λ ys _ u.
+                let same : xs ≡ ys = ap avpsOf u in
+                (rw (← same, ← number) few, rw (← same) kept, rw (← same) forest));
             long = λ _. header-long;
-            few = λ _. w .few c e;
-            avps = λ _. back;
+            few = λ _. few;
+            avps = λ _. rw number (kept-avps (numberBy table) after xs (omega (arith, few, number)) kept);
           }
 
-met-same : (d e : List Entry) (s : List ℕ) (o : Outcome) → walkBy d s ≡ walkBy e s → metBy d s o ≡ metBy e s o
-met-same d e s Pass w = ap avpsOf w
-met-same d e s (Refused v) w = refl
-
--- ---- two dictionaries in which the same is found
-
-module _ (d e : List Entry) (same : (vendor code : ℕ) → find d vendor code ≡ find e vendor code) (s : List ℕ) where
-  walks-same : walkBy d s ≡ walkBy e s
-  walks-same = walk-same d e same s (length s) (ownList s)
-
-  outcome-same : outcomeBy d s ≡ outcomeBy e s
-  unfolding outcomeBy
-  outcome-same = ap (outcomeAfter s) walks-same
-
-pub judged-same : (d e : List Entry) → ((vendor code : ℕ) → find d vendor code ≡ find e vendor code) → (s before : List ℕ)
-    {r : Judgement} {after : List ℕ} → IsJudged d s before r after → IsJudged e s before r after
-unfolding logAfterBy
-judged-same d e same s before j =
-    let o = outcome-same d e same s in
-    let w = walks-same d e same s in
+-- a refusal of the header needs no table
+pub header-refused : (s before : List ℕ) (o : Outcome) {v : Verdict} → o ≡ headerOutcome s → o ≡ Refused v
+    → IsJudged s before (record { outcome = o; count = 0 }) before
+unfolding commandOutcome logAfter logAfterBy
+header-refused s before o {v} e q =
+    let r : headerOutcome s ≡ Refused v = sym e ∙ q in
     record {
-      outcome = j .outcome ∙ o;
-      left = j .left ∙ ap (putAvps before 0) (met-same d e s (headerOutcome s) w);
-      long = λ p. j .long (o ∙ p);
-      few = λ p. j .few (o ∙ p);
-      avps = λ p. j .avps (o ∙ p) ∙ ap avpsOf w;
+      outcome = q ∙ sym (refused-first (headerOutcome s) (walkedOutcome s (walkOf s)) r ∙ r);
+      left = rw (r, logged-none (entryOf dictionary) 0);
+      long = λ p. never (sym q ∙ p);
+      few = λ p. never (sym q ∙ p);
+      avps = λ p. never (sym q ∙ p);
     }
+
+-- by the right table, in document 01's terms
+pub judged-right : (table : List ℕ) → IsTable table → (s before : List ℕ) {r : Judgement} {after : List ℕ}
+    → IsJudgedBy table s before r after → IsJudged s before r after
+judged-right table is s before j = record {
+  outcome = j .right is;
+  left = j .left ∙ log-same table is s before;
+  long = j .long;
+  few = j .few;
+  avps = λ p. j .avps p ∙ ap avpsOf (walks-same table is s);
+}
 
 -- ---- verdict and record
 
 module _ (s : List ℕ) where
-  -- by document 01's dictionary
-  pub outcome-is : outcomeBy dictionary s ≡ commandOutcome s
-  unfolding outcomeBy commandOutcome walkOf
-  outcome-is = refl
-
-  pub walk-is : walkBy dictionary s ≡ walkOf s
-  unfolding walkOf
-  walk-is = refl
-
   pub verdict-told : (o : Outcome) → o ≡ commandOutcome s → verdictOf o ≡ commandVerdict s
   unfolding commandVerdict
   verdict-told o e = ap verdictOf e
@@ -163,8 +257,3 @@ module _ (s : List ℕ) where
       → _≡_ {A = Reading} (record { verdict = v; «record» = r }) (reading s)
   unfolding reading
   read-refused e r q = rw (q, verdict-refused e, e)
-
--- by the right table of plain codes the verdict is document 01's
-pub table-verdict : (table : List ℕ) → IsTable table → (s : List ℕ) → verdictOf (outcomeBy (dictionaryBy table) s) ≡ commandVerdict s
-table-verdict table is s =
-    verdict-told s _ (outcome-same (dictionaryBy table) dictionary (table-same table is) s ∙ outcome-is s)

@@ -1,44 +1,80 @@
 -- The promises of the reader: the verdict of a slice of octets, and what a lent log holds afterwards.
 use mathlib.Core.Path.{_≡_}
-use Prim.Native.Nat.{ℕ, _≤_}
+use Prim.Native.Nat.{ℕ, _≤_, min}
 use mathlib.Core.List.{List, []}
 use lib.ListN.{length}
 use Rattle.rules.specs.declared.Avp.{Avp}
 use Rattle.rules.specs.declared.Verdict.{Verdict}
 use Rattle.rules.specs.declared.Outcome.{Outcome}
 use Rattle.rules.specs.declared.Outcome.the-variants.{Pass, Refused}
-use Rattle.rules.specs.Verdict.{verdictOf}
-use Rattle.rules.specs.Header.{headerSize, headerOutcome}
+use Rattle.rules.specs.Verdict.{orElse, verdictOf}
+use Rattle.rules.specs.Header.{headerSize, headerOutcome, commandFlags, isRequest}
 use Rattle.rules.specs.Dictionary.{Entry, dictionary}
-use Rattle.rules.specs.Walk.{mostAvps, avpsOf}
-use Rattle.rules.specs.Command.{walkBy, outcomeAfter, commandOutcome, commandVerdict}
-use Rattle.log.specs.Log.{avpsIn, putAvps}
+use Rattle.rules.specs.Walk.{mostAvps, Walked, whole, stopped, avpsOf}
+use Rattle.rules.specs.Exchange.{exchangeBy}
+use Rattle.rules.specs.Command.{commandGrammar, walkBy, walkOf, commandOutcome, commandVerdict}
+use Rattle.dictionary.specs.Entries.{entryOf}
+use Rattle.dictionary.specs.Table.{IsTable, dictionaryBy}
+use Rattle.log.specs.Log.{putAll, loggedOf, avpsIn}
+use Rattle.log.specs.Families.{loggedFrom}
+use Rattle.walk.specs.Promise.{numberBy}
+use Rattle.rows.specs.ByLog.{rowsBy}
+use Rattle.rows.specs.Firsts.{noneYet, firstsFrom}
+use Rattle.exchange.specs.Firsts.{findIn}
 use Rattle.reader.specs.declared.Judgement.{Judgement}
 
--- the outcome of a command whose walk goes by a dictionary
-unfoldable pub outcomeBy : List Entry → List ℕ → Outcome
-outcomeBy dict s = outcomeAfter s (walkBy dict s)
+-- ---- by a table of plain codes, whatever numbers it holds
+
+-- the first positions in the command's own list, by what a log holds of so many AVPs
+abbrev pub firstsIn : List ℕ → ℕ → List ℕ
+firstsIn log count = firstsFrom count (loggedOf log) 0 count noneYet
+
+-- rows and exchange rules by what a log holds of so many AVPs; a count above 256 is read as 256
+unfoldable pub listsIn : List ℕ → List ℕ → ℕ → Outcome
+listsIn s log count =
+    orElse (rowsBy (loggedOf log) (commandGrammar (commandFlags s)) (length s) (min count mostAvps))
+    (exchangeBy (findIn (firstsIn log (min count mostAvps)) (min count mostAvps)) (isRequest (commandFlags s)) (avpsIn log count) s (length s))
+
+-- a fault of the walk is the answer; else its lists by the log that it left
+abbrev pub walkedIn : List ℕ → List ℕ → Walked → Outcome
+walkedIn s log (whole xs) = listsIn s log (length xs)
+walkedIn s log (stopped xs v) = Refused v
+
+-- the outcome of a command whose walk went by a dictionary and left this log
+unfoldable pub outcomeIn : List Entry → List ℕ → List ℕ → Outcome
+outcomeIn dict s log = orElse (headerOutcome s) (walkedIn s log (walkBy dict s))
 
 -- the AVPs that such a walk met; none where the header is refused
 abbrev pub metBy : List Entry → List ℕ → Outcome → List Avp
 metBy dict s Pass = avpsOf (walkBy dict s)
 metBy dict s (Refused v) = []
 
--- a log after a command was judged: the AVPs that its walk met, from position 0 on
-unfoldable pub logAfterBy : List Entry → List ℕ → List ℕ → List ℕ
-logAfterBy dict s before = putAvps before 0 (metBy dict s (headerOutcome s))
+-- a log after a command was judged: the AVPs that its walk met, with their families, from position 0 on; `entry` gives
+-- the number of a name's entry
+unfoldable pub logAfterBy : List Entry → (ℕ → ℕ → ℕ) → List ℕ → List ℕ → List ℕ
+logAfterBy dict entry s before = putAll before 0 (loggedFrom entry 0 (metBy dict s (headerOutcome s)))
 
--- the same by document 01's dictionary
-abbrev pub logAfter : List ℕ → List ℕ → List ℕ
-logAfter = logAfterBy dictionary
+-- what judging a command by a table gives; by the right one document 01's outcome
+pub record IsJudgedBy (table s before : List ℕ) (r : Judgement) (after : List ℕ) : Type 0 where
+  pub outcome : r .outcome ≡ outcomeIn (dictionaryBy table) s after
+  pub left : after ≡ logAfterBy (dictionaryBy table) (numberBy table) s before
+  pub right : IsTable table → r .outcome ≡ commandOutcome s
+  pub long : r .outcome ≡ Pass → headerSize ≤ length s
+  pub few : r .outcome ≡ Pass → r .count ≤ mostAvps
+  pub avps : r .outcome ≡ Pass → avpsIn after (r .count) ≡ avpsOf (walkBy (dictionaryBy table) s)
 
--- what judging a command by a dictionary gives, and for an accepted one its AVPs
-pub record IsJudged (dict : List Entry) (s before : List ℕ) (r : Judgement) (after : List ℕ) : Type 0 where
-  pub outcome : r .outcome ≡ outcomeBy dict s
-  pub left : after ≡ logAfterBy dict s before
-  pub long : outcomeBy dict s ≡ Pass → headerSize ≤ length s
-  pub few : outcomeBy dict s ≡ Pass → r .count ≤ mostAvps
-  pub avps : outcomeBy dict s ≡ Pass → avpsIn after (r .count) ≡ avpsOf (walkBy dict s)
+-- ---- by document 01's dictionary
+
+unfoldable pub logAfter : List ℕ → List ℕ → List ℕ
+logAfter s before = logAfterBy dictionary (entryOf dictionary) s before
+
+-- what judging a command gives, and for an accepted one its AVPs
+pub record IsJudged (s before : List ℕ) (r : Judgement) (after : List ℕ) : Type 0 where
+  pub outcome : r .outcome ≡ commandOutcome s
+  pub left : after ≡ logAfter s before
+  pub long : r .outcome ≡ Pass → headerSize ≤ length s
+  pub few : r .outcome ≡ Pass → r .count ≤ mostAvps
+  pub avps : r .outcome ≡ Pass → avpsIn after (r .count) ≡ avpsOf (walkOf s)
 
 -- what `outcome` gives
 pub record Settled (s before : List ℕ) (r : Outcome) (after : List ℕ) : Type 0 where
@@ -51,7 +87,8 @@ pub record Judged (s before : List ℕ) (r : Verdict) (after : List ℕ) : Type 
   pub answer : r ≡ commandVerdict s
   pub left : after ≡ logAfter s before
 
--- what `verdict_by` gives
-pub record JudgedBy (dict : List Entry) (s before : List ℕ) (r : Verdict) (after : List ℕ) : Type 0 where
-  pub answer : r ≡ verdictOf (outcomeBy dict s)
-  pub left : after ≡ logAfterBy dict s before
+-- what `verdict_by` gives; by the right table document 01's verdict
+pub record JudgedBy (table s before : List ℕ) (r : Verdict) (after : List ℕ) : Type 0 where
+  pub answer : r ≡ verdictOf (outcomeIn (dictionaryBy table) s after)
+  pub left : after ≡ logAfterBy (dictionaryBy table) (numberBy table) s before
+  pub right : IsTable table → r ≡ commandVerdict s

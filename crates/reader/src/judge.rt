@@ -3,13 +3,12 @@ ghost use mathlib.Core.Path.{_≡_};
 ghost use Prim.Native.Nat.{_≤_};
 ghost use lib.ListN.{length};
 ghost use Rattle.rules.specs.Header.{headerSize, longestCommand, headerOutcome};
-ghost use Rattle.rules.specs.Dictionary.{dictionary};
-ghost use Rattle.rules.specs.Command.{commandGrammar, listsOutcome};
-ghost use Rattle.dictionary.specs.Table.{dictionaryBy};
-ghost use Rattle.log.specs.Log.{avpsIn};
-ghost use Rattle.reader.specs.Promise.{IsJudged};
+ghost use Rattle.rules.specs.Command.{commandGrammar};
+ghost use Rattle.rows.specs.Firsts.{noneYet};
+ghost use Rattle.reader.specs.Promise.{listsIn, IsJudgedBy, IsJudged};
 use crate::Judgement;
 use crate::header;
+use dictionary::kinds;
 use dictionary::plain;
 use octets::has_flag;
 use rules::Grammar;
@@ -28,19 +27,27 @@ fn command_grammar(flags: u8) -> Grammar
     Grammar::Answer
 }
 
-// Rows and exchange rules over the AVPs of a log.
+// No entry was met yet in the command's own list: the number of places of a record is no position.
+fn none_yet() -> [u16; kinds::ENTRIES]
+    ensures { λ r. ⌜ r ≡ noneYet ⌝ }
+{
+    [limits::MOST_AVPS as u16; kinds::ENTRIES]
+}
+
+// Rows and exchange rules by what a log holds.
 fn lists_outcome(s: &[u8], log: &[u32; limits::LOG_NUMBERS], count: usize) -> Outcome
     requires { ⌜ (headerSize ≤ length (now s)) × (length (now s) ≤ longestCommand) ⌝ }
-    ensures { λ r. ⌜ r ≡ listsOutcome (now (s .entry)) (avpsIn (now (log .entry)) count) ⌝ }
+    ensures { λ r. ⌜ r ≡ listsIn (now (s .entry)) (now (log .entry)) count ⌝ }
 {
     let flags = s[4];
     let end = s.len() as u32;
-    let rows = rows::judge(log, count, command_grammar(flags), end);
+    let mut firsts = none_yet();
+    let rows = rows::judge(log, count, command_grammar(flags), end, &mut firsts);
     let Outcome::Pass = rows else {
         return rows;
     };
     let request = has_flag(flags, flags::REQUEST);
-    exchange::judge(request, s, log, count, end)
+    exchange::judge(request, s, log, count, end, &firsts)
 }
 
 // The AVPs of a command whose header passed: its walk by a table of plain codes, into a lent log, then its lists.
@@ -50,12 +57,12 @@ fn judge_avps(
     log: &mut [u32; limits::LOG_NUMBERS],
 ) -> Judgement
     requires { ⌜ headerOutcome (now s) ≡ Outcome.Pass ⌝ }
-    ensures { λ r. ⌜ IsJudged (dictionaryBy (now (table .entry))) (now (s .entry)) (now (log .entry)) r (now (log .exit)) ⌝ }
+    ensures { λ r. ⌜ IsJudgedBy (now (table .entry)) (now (s .entry)) (now (log .entry)) r (now (log .exit)) ⌝ }
 {
     let walked = walk::walk_command(s, table, log);
     match walked {
-        Walk::Stopped(v) => Judgement {
-            outcome: Outcome::Refused(v),
+        Walk::Stopped { count: _, verdict } => Judgement {
+            outcome: Outcome::Refused(verdict),
             count: 0,
         },
         Walk::Whole(count) => Judgement {
@@ -71,7 +78,7 @@ pub(crate) fn judge_by(
     table: &[u8; plain::PLAIN_CODES],
     log: &mut [u32; limits::LOG_NUMBERS],
 ) -> Judgement
-    ensures { λ r. ⌜ IsJudged (dictionaryBy (now (table .entry))) (now (s .entry)) (now (log .entry)) r (now (log .exit)) ⌝ }
+    ensures { λ r. ⌜ IsJudgedBy (now (table .entry)) (now (s .entry)) (now (log .entry)) r (now (log .exit)) ⌝ }
 {
     let header = header::header_outcome(s);
     let Outcome::Pass = header else {
@@ -86,7 +93,7 @@ pub(crate) fn judge_by(
 // A command judged into a lent log. The table of plain codes is made behind the header's checks, so that a refusal there
 // does not pay for it.
 pub(crate) fn judge(s: &[u8], log: &mut [u32; limits::LOG_NUMBERS]) -> Judgement
-    ensures { λ r. ⌜ IsJudged dictionary (now (s .entry)) (now (log .entry)) r (now (log .exit)) ⌝ }
+    ensures { λ r. ⌜ IsJudged (now (s .entry)) (now (log .entry)) r (now (log .exit)) ⌝ }
 {
     let header = header::header_outcome(s);
     let Outcome::Pass = header else {

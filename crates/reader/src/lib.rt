@@ -2,7 +2,6 @@
 ghost use mathlib.Core.Path.{_≡_};
 ghost use Rattle.rules.specs.Verdict.{verdict, verdictOf};
 ghost use Rattle.rules.specs.Record.{reading};
-ghost use Rattle.dictionary.specs.Table.{dictionaryBy};
 ghost use Rattle.reader.specs.Promise.{Settled, Judged, JudgedBy};
 use dictionary::plain;
 use rules::Outcome;
@@ -63,7 +62,7 @@ pub fn verdict_by(
     table: &[u8; plain::PLAIN_CODES],
     log: &mut [u32; limits::LOG_NUMBERS],
 ) -> Verdict
-    ensures { λ r. ⌜ JudgedBy (dictionaryBy (now (table .entry))) (now (s .entry)) (now (log .entry)) r (now (log .exit)) ⌝ }
+    ensures { λ r. ⌜ JudgedBy (now (table .entry)) (now (s .entry)) (now (log .entry)) r (now (log .exit)) ⌝ }
 {
     let judged = judge::judge_by(s, table, log);
     let outcome = judged.outcome;

@@ -7,7 +7,6 @@ use native.Mathlib.Omega.{arith}
 use Rattle.rules.specs.Command.{commandVerdict}
 use Rattle.rules.specs.Book.{lengthOf}
 use Rattle.book.proofs.Cuts.{whole}
-use Rattle.reader.proofs.Order.{table-verdict}
 use Rattle.book.proofs.verdict_at.Statement.{statement}
 use Rattle.book.proofs.verdict_at.Tie as tie
 
@@ -43,7 +42,7 @@ returns c =
     let s = n .before .before in
     let same : s .args .offset + n .number3 .result - s .args .offset ≡ lengthOf (s .args .book .now) (s .args .offset) =
     omega (arith, n .number3 .ensures .is) in
-    c .verdict-by .ensures .answer ∙ table-verdict _ (s .pre .1) _
+    c .verdict-by .ensures .right (s .pre .1)
     ∙ ap (λ (l : ℕ). commandVerdict (take l (drop (s .args .offset) (s .args .book .now)))) same
 
 pub verdict-at-spec : {M : Type 1} → statement M

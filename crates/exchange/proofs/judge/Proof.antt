@@ -1,7 +1,7 @@
 -- `exchange::judge` meets its contract.
 use mathlib.Core.Path.{sym, _∙_, ap}
 use borrow.Author.Needs.{needs}
-use Rattle.rules.specs.Exchange.{exchangeOutcome}
+use Rattle.rules.specs.Exchange.{exchangeBy}
 use Rattle.rules.proofs.Outcomes.{answers}
 use Rattle.log.specs.Log.{avpsIn}
 use Rattle.log.proofs.Log.{avps-used}
@@ -21,26 +21,26 @@ enum-told-2 : tie.Need-enum-told-2
 enum-told-2 c = search needs
 
 returns : tie.Need-returns
-unfolding exchangeOutcome
+unfolding exchangeBy
 returns c =
     let b = c .before .before in
     let u = b .before in
     let a = u .before .before .args in
     let same = ap (avpsIn (a .log .now)) (u .used .ensures) ∙ avps-used (a .log .now) (a .count) in
-    answers _ _ _ (rw (← same, sym (b .by-command .ensures) ∙ c .enum-told2 .given .1) (c .enum-told2 .given .1))
+    answers _ _ _ (rw (← same, ← u .used .ensures, sym (b .by-command .ensures) ∙ c .enum-told2 .given .1) (c .enum-told2 .given .1))
 
 each-window-requires : tie.Need-each-window-requires
 each-window-requires c κs = search needs
 
 returns-2 : tie.Need-returns-2
-unfolding exchangeOutcome
+unfolding exchangeBy
 returns-2 c =
     let t = c .before in
     let b = t .before .before in
     let u = b .before in
     let a = u .before .before .args in
     let same = ap (avpsIn (a .log .now)) (u .used .ensures) ∙ avps-used (a .log .now) (a .count) in
-    answers _ _ _ (rw (← same, sym (b .by-command .ensures) ∙ t .enum-told .given .1) (c .each-window .ensures))
+    answers _ _ _ (rw (← same, ← u .used .ensures, sym (b .by-command .ensures) ∙ t .enum-told .given .1) (c .each-window .ensures))
 
 pub judge-spec : {M : Type 1} → statement M
 judge-spec =

@@ -1,7 +1,7 @@
 -- `numbers::put_avp` meets its contract.
 use borrow.Author.Needs.{needs}
 use Prim.Native.Nat.{_+_, _*_}
-use Rattle.log.proofs.Log.{sets-seven}
+use Rattle.log.proofs.Kept.{sets-seven}
 use Rattle.numbers.proofs.put_avp.Statement.{statement}
 use Rattle.numbers.proofs.put_avp.Tie as tie
 

@@ -1,7 +1,6 @@
 -- `reader::outcome` meets its contract.
 use borrow.Author.Needs.{needs}
-use mathlib.Core.Path.{_∙_}
-use Rattle.reader.proofs.Order.{outcome-is, verdict-told}
+use Rattle.reader.proofs.Order.{verdict-told}
 use Rattle.reader.proofs.outcome.Statement.{statement}
 use Rattle.reader.proofs.outcome.Tie as tie
 
@@ -11,8 +10,7 @@ judge-requires c κs = search needs
 returns : tie.Need-returns
 returns c =
     let is = c .judge .ensures in
-    let answer = is .outcome ∙ outcome-is _ in
-    record { answer = answer; told = verdict-told _ _ answer; left = is .left }
+    record { answer = is .outcome; told = verdict-told _ _ (is .outcome); left = is .left }
 
 pub outcome-spec : {M : Type 1} → statement M
 outcome-spec = tie.close (tie.spec judge-requires returns)

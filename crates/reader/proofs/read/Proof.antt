@@ -1,9 +1,8 @@
 -- `reader::read` meets its contract.
 use borrow.Author.Needs.{needs}
 use mathlib.Core.Path.{sym, ap, _∙_}
-use Rattle.rules.specs.Walk.{avpsOf}
 use Rattle.rules.specs.Record.{recordOf}
-use Rattle.reader.proofs.Order.{outcome-is, walk-is, read-accepted, read-refused}
+use Rattle.reader.proofs.Order.{read-accepted, read-refused}
 use Rattle.reader.proofs.read.Statement.{statement}
 use Rattle.reader.proofs.read.Tie as tie
 
@@ -21,8 +20,7 @@ record-of-requires c κs =
     let t = c .before .before in
     let j = t .before .before in
     let is = j .judge .ensures in
-    let pass = sym (is .outcome) ∙ t .enum-told .given .1 in
-    (is .long pass, is .few pass)
+    (is .long (t .enum-told .given .1), is .few (t .enum-told .given .1))
 
 enum-known-outcome : tie.Need-enum-known-outcome
 enum-known-outcome c = search needs
@@ -36,15 +34,14 @@ returns c =
     let j = t .before .before in
     let s = j .before .before .before .args .s .now in
     let is = j .judge .ensures in
-    let pass = sym (is .outcome) ∙ t .enum-told .given .1 in
-    let avps = is .avps pass ∙ ap avpsOf (walk-is s) in
-    read-accepted s (sym (outcome-is s) ∙ pass) _ _ (c .before .before .accepted .ensures) (c .record-of .ensures ∙ ap (recordOf s) avps)
+    let pass = t .enum-told .given .1 in
+    read-accepted s (sym (is .outcome) ∙ pass) _ _ (c .before .before .accepted .ensures) (c .record-of .ensures ∙ ap (recordOf s) (is .avps pass))
 
 returns-2 : tie.Need-returns-2
 returns-2 c =
     let j = c .before .before .before .before in
     let s = j .before .before .before .args .s .now in
-    read-refused s (sym (j .judge .ensures .outcome ∙ outcome-is s) ∙ c .before .before .outcome .given .1) _ (c .empty-record .ensures)
+    read-refused s (sym (j .judge .ensures .outcome) ∙ c .before .before .outcome .given .1) _ (c .empty-record .ensures)
 
 pub read-spec : {M : Type 1} → statement M
 read-spec =

@@ -1,10 +1,10 @@
 -- `exchange::answer::policies_outcome` meets its contract.
-use mathlib.Core.Path.{_≡_, sym, _∙_}
+use mathlib.Core.Path.{sym, _∙_}
 use native.Mathlib.Omega.{arith}
 use borrow.Author.Needs.{needs}
-use Rattle.rules.specs.Header.{vendor3GPP}
-use Rattle.rules.specs.Exchange.{require}
-use Rattle.log.specs.Log.{avpsIn}
+use Rattle.rules.specs.Dictionary.{dictionary}
+use Rattle.dictionary.specs.Entries.{vendorOf, codeOf}
+use Rattle.exchange.specs.Firsts.{findIn}
 use Rattle.exchange.proofs.Rules.{no-policy, policy-unreferenced, one-policy, more-policies}
 use Rattle.exchange.proofs.answer.policies_outcome.Statement.{statement}
 use Rattle.exchange.proofs.answer.policies_outcome.Tie as tie
@@ -19,7 +19,11 @@ enum-told : tie.Need-enum-told
 enum-told c = search needs
 
 returns : tie.Need-returns
-returns c = no-policy _ _ (sym (c .before .before .search .ensures .is) ∙ c .enum-told .given .1)
+unfolding dictionary vendorOf codeOf
+returns c =
+    let f = c .before .before in
+    let a = f .before .args in
+    no-policy (findIn (a .firsts .now) (a .count)) _ _ (sym (f .search .ensures .is) ∙ c .enum-told .given .1)
 
 require-requires : tie.Need-require-requires
 require-requires c κs = search needs
@@ -31,11 +35,14 @@ enum-told-3 : tie.Need-enum-told-3
 enum-told-3 c = search needs
 
 returns-2 : tie.Need-returns-2
+unfolding dictionary vendorOf codeOf
 returns-2 c =
     let r = c .before .before in
     let k = r .before .before in
-    let policy = sym (k .before .before .search .ensures .is) ∙ k .i .given .1 in
-    policy-unreferenced _ _ _ policy _ _ (r .require .ensures) (c .enum-told3 .given .1)
+    let f = k .before .before in
+    let a = f .before .args in
+    let policy = sym (f .search .ensures .is) ∙ k .i .given .1 in
+    policy-unreferenced (findIn (a .firsts .now) (a .count)) _ _ _ policy _ _ (r .require .ensures) (c .enum-told3 .given .1)
 
 add-first : tie.Need-add-first
 add-first c =
@@ -53,31 +60,36 @@ enum-told-5 : tie.Need-enum-told-5
 enum-told-5 c = search needs
 
 returns-3 : tie.Need-returns-3
+unfolding dictionary vendorOf codeOf
 returns-3 c =
     let n = c .before .before in
     let q = n .before in
     let r = q .before .before in
     let k = r .before .before in
-    let policy = sym (k .before .before .search .ensures .is) ∙ k .i .given .1 in
+    let f = k .before .before in
+    let a = f .before .args in
+    let policy = sym (f .search .ensures .is) ∙ k .i .given .1 in
     let reference = sym (r .require .ensures) ∙ q .enum-told2 .given .1 in
-    one-policy _ _ _ policy reference (sym (n .first .ensures .is) ∙ c .enum-told5 .given .1)
+    one-policy (findIn (a .firsts .now) (a .count)) _ _ _ policy reference (sym (n .first .ensures .is) ∙ c .enum-told5 .given .1)
 
 require-requires-2 : tie.Need-require-requires-2
 require-requires-2 c κs = search needs
 
 returns-4 : tie.Need-returns-4
+unfolding dictionary vendorOf codeOf
 returns-4 c =
     let m = c .before in
     let n = m .before .before in
     let q = n .before in
     let r = q .before .before in
     let k = r .before .before in
-    let policy = sym (k .before .before .search .ensures .is) ∙ k .i .given .1 in
+    let f = k .before .before in
+    let a = f .before .args in
+    let policy = sym (f .search .ensures .is) ∙ k .i .given .1 in
     let reference = sym (r .require .ensures) ∙ q .enum-told2 .given .1 in
-    let a = k .before .before .before .args in
-    let xs = avpsIn (a .log .now) (a .count) in
-    let address : c .require2 .result ≡ require xs (a .end) vendor3GPP 2207 = c .require2 .ensures in
-    address ∙ more-policies _ _ _ policy reference _ (sym (n .first .ensures .is) ∙ m .enum-told4 .given .1)
+    c .require2 .ensures
+    ∙ more-policies (findIn (a .firsts .now) (a .count)) _ _ _ policy reference _
+    (sym (n .first .ensures .is) ∙ m .enum-told4 .given .1)
 
 pub policies-outcome-spec : {M : Type 1} → statement M
 policies-outcome-spec =

@@ -2,6 +2,8 @@
 use mathlib.Core.Path.{sym, _∙_}
 use borrow.Author.Needs.{needs}
 use Rattle.rules.specs.Exchange.{laterRequest}
+use Rattle.rules.specs.Dictionary.{dictionary}
+use Rattle.dictionary.specs.Entries.{vendorOf, codeOf}
 use Rattle.exchange.proofs.request.later_request.Statement.{statement}
 use Rattle.exchange.proofs.request.later_request.Tie as tie
 
@@ -15,7 +17,7 @@ enum-told-2 : tie.Need-enum-told-2
 enum-told-2 c = search needs
 
 returns : tie.Need-returns
-unfolding laterRequest
+unfolding laterRequest dictionary vendorOf codeOf
 returns c = rw (sym (c .before .before .require .ensures) ∙ c .enum-told2 .given .1) (c .enum-told2 .given .1)
 
 require-requires-2 : tie.Need-require-requires-2
@@ -28,7 +30,7 @@ enum-told-4 : tie.Need-enum-told-4
 enum-told-4 c = search needs
 
 returns-2 : tie.Need-returns-2
-unfolding laterRequest
+unfolding laterRequest dictionary vendorOf codeOf
 returns-2 c =
     let p = c .before .before .before in
     let reference = sym (p .before .before .require .ensures) ∙ p .enum-told .given .1 in
@@ -39,7 +41,7 @@ require-requires-3 : tie.Need-require-requires-3
 require-requires-3 c κs = search needs
 
 returns-3 : tie.Need-returns-3
-unfolding laterRequest
+unfolding laterRequest dictionary vendorOf codeOf
 returns-3 c =
     let q = c .before in
     let p = q .before .before .before in

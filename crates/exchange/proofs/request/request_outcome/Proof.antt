@@ -1,6 +1,9 @@
 -- `exchange::request::request_outcome` meets its contract.
 use mathlib.Core.Path.{sym, _∙_}
 use borrow.Author.Needs.{needs}
+use Rattle.rules.specs.Dictionary.{dictionary}
+use Rattle.dictionary.specs.Entries.{vendorOf, codeOf}
+use Rattle.exchange.specs.Firsts.{findIn}
 use Rattle.exchange.proofs.Rules.{request-typed, request-untyped}
 use Rattle.exchange.proofs.request.request_outcome.Statement.{statement}
 use Rattle.exchange.proofs.request.request_outcome.Tie as tie
@@ -18,9 +21,12 @@ refusal-requires : tie.Need-refusal-requires
 refusal-requires c κs = search needs
 
 returns : tie.Need-returns
+unfolding dictionary vendorOf codeOf
 returns c =
     let f = c .before .before .before in
-    c .refusal .ensures .is ∙ request-untyped _ _ _ (sym (f .search .ensures .is) ∙ c .before .enum-told .given .1)
+    let a = f .before .before .args in
+    let untyped = sym (f .search .ensures .is) ∙ c .before .enum-told .given .1 in
+    c .refusal .ensures .is ∙ request-untyped (findIn (a .firsts .now) (a .count)) _ _ _ untyped
 
 number-of-requires : tie.Need-number-of-requires
 number-of-requires c κs =
@@ -32,12 +38,14 @@ by-request-type-requires : tie.Need-by-request-type-requires
 by-request-type-requires c κs = search needs
 
 returns-2 : tie.Need-returns-2
+unfolding dictionary vendorOf codeOf
 returns-2 c =
     let n = c .before in
     let k = n .before .before in
     let f = k .before .before in
+    let a = f .before .before .args in
     rw (n .number-of .ensures) at (c .by-request-type .ensures)
-    ∙ request-typed _ _ _ _ (sym (f .search .ensures .is) ∙ k .i .given .1)
+    ∙ request-typed (findIn (a .firsts .now) (a .count)) _ _ _ _ (sym (f .search .ensures .is) ∙ k .i .given .1)
 
 pub request-outcome-spec : {M : Type 1} → statement M
 request-outcome-spec =

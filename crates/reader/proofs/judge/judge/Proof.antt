@@ -1,10 +1,7 @@
 -- `reader::judge::judge` meets its contract.
 use borrow.Author.Needs.{needs}
 use mathlib.Core.Path.{sym, _∙_}
-use Rattle.rules.specs.Dictionary.{dictionary}
-use Rattle.dictionary.specs.Table.{dictionaryBy}
-use Rattle.dictionary.proofs.Table.{table-same}
-use Rattle.reader.proofs.Order.{judged-header, judged-same}
+use Rattle.reader.proofs.Order.{header-refused, judged-right}
 use Rattle.reader.proofs.judge.judge.Statement.{statement}
 use Rattle.reader.proofs.judge.judge.Tie as tie
 
@@ -21,7 +18,7 @@ returns : tie.Need-returns
 returns c =
     let h = c .before .before in
     let a = h .before .before .args in
-    judged-header dictionary (a .s .now) (a .log .now) _ (h .header-outcome .ensures) (c .enum-told2 .given .1)
+    header-refused (a .s .now) (a .log .now) _ (h .header-outcome .ensures) (c .enum-told2 .given .1)
 
 plain-table-requires : tie.Need-plain-table-requires
 plain-table-requires c κs = search needs
@@ -37,8 +34,7 @@ returns-2 c =
     let p = c .before .before .before in
     let h = p .before .before .before in
     let a = h .before .before .args in
-    judged-same (dictionaryBy (p .plain-table .result)) dictionary (table-same (p .plain-table .result) (p .plain-table .ensures))
-    (a .s .now) (a .log .now) (c .judge-avps .ensures)
+    judged-right (p .plain-table .result) (p .plain-table .ensures) (a .s .now) (a .log .now) (c .judge-avps .ensures)
 
 pub judge-spec : {M : Type 1} → statement M
 judge-spec =

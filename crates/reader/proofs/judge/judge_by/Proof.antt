@@ -1,7 +1,6 @@
 -- `reader::judge::judge_by` meets its contract.
 use borrow.Author.Needs.{needs}
 use mathlib.Core.Path.{sym, _∙_}
-use Rattle.dictionary.specs.Table.{dictionaryBy}
 use Rattle.reader.proofs.Order.{judged-header}
 use Rattle.reader.proofs.judge.judge_by.Statement.{statement}
 use Rattle.reader.proofs.judge.judge_by.Tie as tie
@@ -19,7 +18,7 @@ returns : tie.Need-returns
 returns c =
     let h = c .before .before in
     let a = h .before .before .args in
-    judged-header (dictionaryBy (a .table .now)) (a .s .now) (a .log .now) _ (h .header-outcome .ensures) (c .enum-told2 .given .1)
+    judged-header (a .table .now) (a .s .now) (a .log .now) _ (h .header-outcome .ensures) (c .enum-told2 .given .1)
 
 judge-avps-requires : tie.Need-judge-avps-requires
 judge-avps-requires c κs =

@@ -2,14 +2,19 @@
 use borrow.Author.Needs.{needs}
 use mathlib.Core.Path.{_≡_, sym, ap, _∙_}
 use mathlib.Core.Bool.{Bool}
+use mathlib.Core.List.{List}
+use Prim.Native.Nat.{ℕ, min}
 use lib.ListN.{length}
 use Rattle.rules.specs.Header.{commandFlags, isRequest}
-use Rattle.rules.specs.Dictionary.{dictionary}
-use Rattle.rules.specs.RowChecks.{rowsOutcome}
-use Rattle.rules.specs.Exchange.{exchangeOutcome}
-use Rattle.rules.specs.Command.{commandGrammar, listsOutcome}
+use Rattle.rules.specs.Walk.{mostAvps}
+use Rattle.rules.specs.Exchange.{exchangeBy}
+use Rattle.rules.specs.Command.{commandGrammar}
 use Rattle.rules.proofs.Outcomes.{refused-first, pass-first}
-use Rattle.log.specs.Log.{avpsIn}
+use Rattle.log.specs.Log.{loggedOf, avpsIn}
+use Rattle.rows.specs.ByLog.{rowsBy}
+use Rattle.rows.specs.Firsts.{firstsFrom}
+use Rattle.exchange.specs.Firsts.{findIn}
+use Rattle.reader.specs.Promise.{firstsIn, listsIn}
 use Rattle.reader.proofs.judge.lists_outcome.Statement.{statement}
 use Rattle.reader.proofs.judge.lists_outcome.Tie as tie
 
@@ -18,6 +23,9 @@ shared-slice-read-flags c = search needs
 
 cast-end : tie.Need-cast-end
 cast-end c = search needs
+
+none-yet-requires : tie.Need-none-yet-requires
+none-yet-requires c κs = search needs
 
 command-grammar-requires : tie.Need-command-grammar-requires
 command-grammar-requires c κs = search needs
@@ -31,16 +39,18 @@ enum-told c = search needs
 enum-told-2 : tie.Need-enum-told-2
 enum-told-2 c = search needs
 
+-- what the row checks said
+rows : (j : tie.After-judge) →
+    let g = j .before .before in
+    let a = g .before .before .before .before .args in
+    j .judge .result ≡ rowsBy (loggedOf (a .log .now)) (commandGrammar (commandFlags (a .s .now))) (length (a .s .now)) (min (a .count) mostAvps)
+rows j = j .judge .ensures .is ∙ rw (j .before .before .command-grammar .ensures)
+
 returns : tie.Need-returns
-unfolding listsOutcome
+unfolding listsIn
 returns c =
     let j = c .before .before in
-    let a = j .before .before .before .before .args in
-    let s = a .s .now in
-    let xs = avpsIn (a .log .now) (a .count) in
-    let e : j .judge .result ≡ rowsOutcome dictionary (commandGrammar (commandFlags s)) (length s) xs =
-    j .judge .ensures .is ∙ rw (j .before .command-grammar .ensures) in
-    e ∙ sym (refused-first (rowsOutcome dictionary (commandGrammar (commandFlags s)) (length s) xs) (exchangeOutcome (isRequest (commandFlags s)) xs s (length s)) (sym e ∙ c .enum-told2 .given .1))
+    rows j ∙ sym (refused-first _ _ (sym (rows j) ∙ c .enum-told2 .given .1))
 
 has-flag-requires : tie.Need-has-flag-requires
 has-flag-requires c κs = search needs
@@ -49,18 +59,20 @@ judge-requires-2 : tie.Need-judge-requires-2
 judge-requires-2 c κs = search needs
 
 returns-2 : tie.Need-returns-2
-unfolding listsOutcome
+unfolding listsIn
 returns-2 c =
-    let f = c .before in
+    let f = c .before .before in
     let j = f .before .before .before in
-    let a = j .before .before .before .before .args in
+    let y = j .before .before .before in
+    let a = y .before .before .before .args in
     let s = a .s .now in
+    let n = min (a .count) mostAvps in
     let xs = avpsIn (a .log .now) (a .count) in
-    let e : j .judge .result ≡ rowsOutcome dictionary (commandGrammar (commandFlags s)) (length s) xs =
-    j .judge .ensures .is ∙ rw (j .before .command-grammar .ensures) in
+    let kept = j .judge .ensures .kept (f .before .enum-told .given .1) ∙ ap (firstsFrom n (loggedOf (a .log .now)) 0 n) (y .none-yet .ensures) in
     c .judge2 .ensures .is
-    ∙ ap (λ (request : Bool). exchangeOutcome request xs s (length s)) (f .has-flag .ensures)
-    ∙ sym (pass-first (rowsOutcome dictionary (commandGrammar (commandFlags s)) (length s) xs) (exchangeOutcome (isRequest (commandFlags s)) xs s (length s)) (sym e ∙ f .before .enum-told .given .1))
+    ∙ ap (λ (firsts : List ℕ). exchangeBy (findIn firsts n) (f .has-flag .result) xs s (length s)) kept
+    ∙ ap (λ (request : Bool). exchangeBy (findIn (firstsIn (a .log .now) n) n) request xs s (length s)) (f .has-flag .ensures)
+    ∙ sym (pass-first _ _ (sym (rows j) ∙ f .before .enum-told .given .1))
 
 pub lists-outcome-spec : {M : Type 1} → statement M
 lists-outcome-spec =
@@ -68,6 +80,7 @@ lists-outcome-spec =
     (tie.spec
     shared-slice-read-flags
     cast-end
+    none-yet-requires
     command-grammar-requires
     judge-requires
     enum-told
