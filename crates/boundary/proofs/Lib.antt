@@ -1,3 +1,5 @@
--- The laws of the data and the search of the record that numbers stand for, and of a link's answer as numbers.
+-- The laws of what is read of a command as numbers, of the data and the search of the record that numbers stand for,
+-- and of a link's answer as numbers.
+mod Readings
 mod Parts
 mod Links

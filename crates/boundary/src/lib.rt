@@ -8,6 +8,7 @@ ghost use Rattle.numbers.specs.Draft.{numberedDraft};
 ghost use Rattle.writer.specs.Promise.{IsWritten};
 ghost use Rattle.canonical.specs.Promise.{IsCanonical};
 ghost use Rattle.boundary.specs.Parts.{IsRead, IsData, searchNumbers};
+use rules::Outcome;
 use rules::Verdict;
 use rules::Written;
 use rules::limits;
@@ -29,15 +30,25 @@ pub extern "C" fn talazumir_verdict(s: &[u8], log: &mut [u32; limits::LOG_NUMBER
     reader::verdict(s, log)
 }
 
-// The verdict of a command, and its record as numbers; all 0 with a refusal.
+// The verdict of a command, and its record as numbers, written straight from a log; all 0 with a refusal.
 #[no_mangle]
 pub extern "C" fn talazumir_read(s: &[u8], numbers: &mut [u32; limits::RECORD_NUMBERS]) -> Verdict
     ensures { λ r. ⌜ IsRead (now (s .entry)) r (now (numbers .exit)) ⌝ }
 {
-    let reading = reader::read(s);
-    let record = reading.record;
-    numbers::put(numbers, record);
-    reading.verdict
+    let mut log = [0u32; limits::LOG_NUMBERS];
+    let judged = reader::judged(s, &mut log);
+    let outcome = judged.outcome;
+    let count = judged.count;
+    match outcome {
+        Outcome::Pass => {
+            numbers::put_command(numbers, s, &log, count);
+            reader::accepted()
+        }
+        Outcome::Refused(v) => {
+            numbers::put_empty(numbers);
+            v
+        }
+    }
 }
 
 // The part of a slice that is the data of the AVP at a position; the empty part at 0 where the position is unused or

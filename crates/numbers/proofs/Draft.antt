@@ -15,7 +15,7 @@ use Rattle.rules.specs.Draft.{draftOf, isWellFormed}
 use Rattle.rules.specs.Writer.{ownOutcome, draftOutcome}
 use Rattle.rules.proofs.Walk.{by-cases}
 use Rattle.log.specs.Log.{bit}
-use Rattle.numbers.specs.Numbers.{headNumbers, avpNumbers, avpsNumbers, numbersOf, numberedPlace, numberedRecord}
+use Rattle.numbers.specs.Numbers.{headOf, headNumbers, avpNumbers, avpsNumbers, numbersOf, numberedPlace, numberedRecord}
 use Rattle.numbers.specs.Flags.{isFlag, headFlagsFit, avpFlagsFit, flagsFitFrom, flagsFit}
 use Rattle.numbers.specs.Draft.{overfullRecord, numberedDraft}
 use Rattle.numbers.proofs.Numbers.{record-back}
@@ -69,7 +69,7 @@ module _ (r : Record) (full : length (r .avps) ≡ mostAvps) where
   pub record-fits : flagsFit (numbersOf r) ≡ true
   unfolding flagsFit headFlagsFit numbersOf
   record-fits =
-      let numbers = headNumbers r ++ avpsNumbers (r .avps) in
+      let numbers = headNumbers (headOf r) (r .count) ++ avpsNumbers (r .avps) in
       let positions : flagsFitFrom numbers 0 mostAvps ≡ true =
       ap (flagsFitFrom numbers 0) (sym full) ∙ avps-fit numbers (r .avps) 0 refl in
       rw (bit-fits (r .r), bit-fits (r .p), bit-fits (r .e), bit-fits (r .t)) positions

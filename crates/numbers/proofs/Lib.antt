@@ -1,6 +1,7 @@
--- The laws of a record as numbers, position by position, of its flags, and of the draft that numbers and octets stand
--- for.
+-- The laws of a record as numbers, put and read position by position, of its flags, and of the draft that numbers and
+-- octets stand for.
 pub mod Numbers
+mod Puts
 pub mod Positions
 mod Flags
 pub mod Draft

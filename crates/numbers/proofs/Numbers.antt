@@ -1,12 +1,11 @@
--- Laws of a record as numbers: written whole place by place, all 0 for the empty record, and read back.
+-- Laws of a record as numbers: in room for 256 AVPs, all 0 for the empty record, and read back.
 use mathlib.Core.Path.{_≡_, refl, sym, ap, _∙_}
-use mathlib.Core.List.{List, [], _∷_, _++_, append-nil}
-use Prim.Native.Nat.{ℕ, zero, suc, _+_, _*_, _≤_, _<_}
+use mathlib.Core.List.{List, [], _∷_, _++_}
+use Prim.Native.Nat.{ℕ, zero, suc, _+_, _-_, _*_, _≤_, _<_}
 use native.Mathlib.Nat.{add-zero}
-use native.Mathlib.Numerals.{add-one}
 use native.Mathlib.Omega.{arith}
-use lib.ListN.{length, getD, set, drop, replicate, drop-of-length-le, List·getD-eq-default}
-use lib.Seq.{sets, sets-eq, drop-cons, drop-drop, getD-drop}
+use lib.ListN.{length, getD, drop, replicate, length-append, length-replicate, List·getD-eq-default}
+use lib.Seq.{drop-drop, getD-drop}
 use Rattle.rules.specs.declared.Avp.{Avp}
 use Rattle.rules.specs.declared.Record.{Record}
 use Rattle.rules.specs.declared.Verdict.{Verdict}
@@ -15,10 +14,9 @@ use Rattle.rules.specs.declared.Outcome.the-variants.{Refused}
 use Rattle.rules.specs.Walk.{mostAvps}
 use Rattle.rules.specs.Search.{blank, avpIn}
 use Rattle.rules.specs.Command.{commandOutcome}
-use Rattle.rules.specs.Record.{emptyRecord, recordBy, reading}
-use Rattle.octets.proofs.Puts.{sets-append}
+use Rattle.rules.specs.Record.{inRoom, emptyRecord, recordBy, reading}
 use Rattle.log.proofs.Kept.{bit-back}
-use Rattle.numbers.specs.Numbers.{headNumbers, avpNumbers, avpsNumbers, numbersOf, recordNumbers, numberedPlace, numberedAvpFrom, numberedAvp, numberedAvps, numberedCount, numberedRecord}
+use Rattle.numbers.specs.Numbers.{headOf, headNumbers, avpNumbers, avpsNumbers, numbersOf, recordNumbers, numberedPlace, numberedAvpFrom, numberedAvp, numberedAvps, numberedCount, numberedRecord}
 
 -- ---- no AVP from position 256 on
 
@@ -29,53 +27,14 @@ avp-out numbers i e h =
     let first : getD numbers (numberedPlace i) 0 ≡ 0 = List·getD-eq-default numbers 0 (omega arith) in
     rw (first, none 1, none 2, none 3, none 4, none 5, none 6)
 
--- ---- written whole
+-- ---- in room for 256
 
-sets-whole : (l vs : List ℕ) → length l ≡ length vs → sets l 0 vs ≡ vs
-sets-whole l vs e =
-    let short : length l ≤ 0 + length vs = omega arith in
-    sets-eq vs l 0 (omega arith) ∙ ap (λ (r : List ℕ). vs ++ r) (drop-of-length-le l short) ∙ append-nil vs
+pub room-full : (xs : List Avp) → length xs ≤ mostAvps → length (inRoom xs) ≡ mostAvps
+room-full xs few =
+    length-append xs (replicate (mostAvps - length xs) blank)
+    ∙ rw (length-replicate {A = Avp} (mostAvps - length xs) blank) (omega arith)
 
-length-avpsNumbers : (xs : List Avp) → length (avpsNumbers xs) ≡ length xs * 7
-unfolding avpsNumbers
-length-avpsNumbers [] = refl
-length-avpsNumbers (a ∷ xs) =
-    let e = length-avpsNumbers xs in
-    omega (arith, e)
-
-module _ (r : Record) (full : length (r .avps) ≡ mostAvps) where
-  -- the numbers with those of the AVPs from a position on set
-  abbrev pub rest : List ℕ → ℕ → List ℕ
-  rest l i = sets l (numberedPlace i) (avpsNumbers (drop i (r .avps)))
-
-  pub rest-all : (l : List ℕ) → length l ≡ recordNumbers → rest (sets l 0 (headNumbers r)) 0 ≡ numbersOf r
-  unfolding numbersOf
-  rest-all l room =
-      let many = length-avpsNumbers (r .avps) in
-      sym (sets-append l 0 (headNumbers r) (avpsNumbers (r .avps)))
-      ∙ sets-whole l (headNumbers r ++ avpsNumbers (r .avps)) (omega (arith, many))
-
-  rest-next : (l : List ℕ) (i : ℕ) → i < mostAvps
-      → rest l i ≡ rest (sets l (numberedPlace i) (avpNumbers (avpIn (r .avps) i))) (i + 1)
-  unfolding avpsNumbers
-  rest-next l i h =
-      let e : numberedPlace i + 7 ≡ numberedPlace (i + 1) = omega arith in
-      let a = avpIn (r .avps) i in
-      ap (λ (xs : List Avp). sets l (numberedPlace i) (avpsNumbers xs)) (drop-cons (r .avps) i blank (omega arith))
-      ∙ sets-append l (numberedPlace i) (avpNumbers a) (avpsNumbers (drop (suc i) (r .avps)))
-      ∙ ap (λ (n : ℕ). sets (sets l (numberedPlace i) (avpNumbers a)) n (avpsNumbers (drop (suc i) (r .avps)))) e
-      ∙ ap (λ (n : ℕ). sets (sets l (numberedPlace i) (avpNumbers a)) (numberedPlace (i + 1)) (avpsNumbers (drop n (r .avps)))) (sym (add-one i))
-
-  -- as the code puts them: the numbers after those of the position
-  pub rest-put : (l : List ℕ) (i : ℕ) → i < mostAvps
-      → (after : List ℕ) → after ≡ sets l (numberedPlace i) (avpNumbers (avpIn (r .avps) i)) → rest after (i + 1) ≡ rest l i
-  rest-put l i h after e = ap (λ (n : List ℕ). rest n (i + 1)) e ∙ sym (rest-next l i h)
-
-  pub rest-none : (l : List ℕ) (i : ℕ) → mostAvps ≤ i → rest l i ≡ l
-  unfolding avpsNumbers
-  rest-none l i h =
-      let short : length (r .avps) ≤ i = omega arith in
-      ap (λ (xs : List Avp). sets l (numberedPlace i) (avpsNumbers xs)) (drop-of-length-le (r .avps) short)
+-- ---- all 0
 
 numbers-empty : numbersOf emptyRecord ≡ replicate recordNumbers 0
 unfolding numbersOf avpsNumbers emptyRecord
@@ -145,7 +104,7 @@ avps-back numbers (a ∷ xs) i e =
 pub record-back : (r : Record) → length (r .avps) ≡ mostAvps → numberedRecord (numbersOf r) ≡ r
 unfolding numberedRecord numbersOf
 record-back r full =
-    let avps : numberedAvps (headNumbers r ++ avpsNumbers (r .avps)) 0 mostAvps ≡ r .avps =
-    ap (numberedAvps (headNumbers r ++ avpsNumbers (r .avps)) 0) (sym full)
-    ∙ avps-back (headNumbers r ++ avpsNumbers (r .avps)) (r .avps) 0 refl in
+    let numbers = headNumbers (headOf r) (r .count) ++ avpsNumbers (r .avps) in
+    let avps : numberedAvps numbers 0 mostAvps ≡ r .avps =
+    ap (numberedAvps numbers 0) (sym full) ∙ avps-back numbers (r .avps) 0 refl in
     rw (avps, bit-back (r .r), bit-back (r .p), bit-back (r .e), bit-back (r .t))

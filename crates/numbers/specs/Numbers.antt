@@ -3,6 +3,7 @@
 use Prim.Native.Nat.{ℕ, zero, suc, _+_, _*_}
 use mathlib.Core.List.{List, [], _∷_, _++_}
 use lib.ListN.{getD}
+use lib.Seq.{sets}
 use lib.Dec.{eqb}
 use Rattle.rules.specs.declared.Avp.{Avp}
 use Rattle.rules.specs.declared.Record.{Record}
@@ -11,9 +12,20 @@ use Rattle.rules.specs.Record.{recorded}
 use Rattle.log.specs.Log.{bit}
 use Rattle.numbers.specs.declared.Head.{Head}
 
-abbrev pub headNumbers : Record → List ℕ
-headNumbers r =
-    bit (r .r) ∷ bit (r .p) ∷ bit (r .e) ∷ bit (r .t) ∷ r .«hop_by_hop» ∷ r .«end_to_end» ∷ r .count ∷ []
+-- the command's part of a record
+abbrev pub headOf : Record → Head
+headOf r = record {
+  r = r .r;
+  p = r .p;
+  e = r .e;
+  t = r .t;
+  «hop_by_hop» = r .«hop_by_hop»;
+  «end_to_end» = r .«end_to_end»;
+}
+
+abbrev pub headNumbers : Head → ℕ → List ℕ
+headNumbers h count =
+    bit (h .r) ∷ bit (h .p) ∷ bit (h .e) ∷ bit (h .t) ∷ h .«hop_by_hop» ∷ h .«end_to_end» ∷ count ∷ []
 
 abbrev pub avpNumbers : Avp → List ℕ
 avpNumbers a = a .depth ∷ a .vendor ∷ a .code ∷ bit (a .m) ∷ bit (a .p) ∷ a .start ∷ a .length ∷ []
@@ -23,7 +35,7 @@ avpsNumbers [] = []
 avpsNumbers (a ∷ xs) = avpNumbers a ++ avpsNumbers xs
 
 unfoldable pub numbersOf : Record → List ℕ
-numbersOf r = headNumbers r ++ avpsNumbers (r .avps)
+numbersOf r = headNumbers (headOf r) (r .count) ++ avpsNumbers (r .avps)
 
 -- seven numbers of the command and of each position
 abbrev pub recordNumbers : ℕ
@@ -32,6 +44,10 @@ recordNumbers = 7 + mostAvps * 7
 -- where the numbers of a position stand
 abbrev pub numberedPlace : ℕ → ℕ
 numberedPlace i = i * 7 + 7
+
+-- the numbers with AVPs put in from a position on
+abbrev pub putAvps : List ℕ → ℕ → List Avp → List ℕ
+putAvps numbers i xs = sets numbers (numberedPlace i) (avpsNumbers xs)
 
 -- the AVP of seven numbers from a place on; a flag is set exactly where its number is 1
 abbrev pub numberedAvpFrom : List ℕ → ℕ → Avp
@@ -75,11 +91,4 @@ numberedUsed numbers = recorded (numberedRecord numbers)
 
 -- the command's part of that record
 abbrev pub numberedHead : List ℕ → Head
-numberedHead numbers = record {
-  r = numberedRecord numbers .r;
-  p = numberedRecord numbers .p;
-  e = numberedRecord numbers .e;
-  t = numberedRecord numbers .t;
-  «hop_by_hop» = numberedRecord numbers .«hop_by_hop»;
-  «end_to_end» = numberedRecord numbers .«end_to_end»;
-}
+numberedHead numbers = headOf (numberedRecord numbers)

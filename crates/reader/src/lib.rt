@@ -2,7 +2,7 @@
 ghost use mathlib.Core.Path.{_≡_};
 ghost use Rattle.rules.specs.Verdict.{verdict, verdictOf};
 ghost use Rattle.rules.specs.Record.{reading};
-ghost use Rattle.reader.specs.Promise.{Settled, Judged, JudgedBy};
+ghost use Rattle.reader.specs.Promise.{IsJudged, Settled, Judged, JudgedBy};
 use dictionary::plain;
 use rules::Outcome;
 use rules::Reading;
@@ -14,7 +14,7 @@ mod judge;
 mod record;
 
 // What judging a command gives: the outcome of its checks, and for an accepted one how many AVPs stand in the log.
-pub(crate) struct Judgement {
+pub struct Judgement {
     pub outcome: Outcome,
     pub count: usize,
 }
@@ -29,6 +29,14 @@ pub fn accepted() -> Verdict
         vendor: 0,
         code: 0,
     }
+}
+
+// A command judged. The lent log is written anew from position 0 on; that of an accepted command holds its AVPs, for a
+// caller that makes a record of them.
+pub fn judged(s: &[u8], log: &mut [u32; limits::LOG_NUMBERS]) -> Judgement
+    ensures { λ r. ⌜ IsJudged (now (s .entry)) (now (log .entry)) r (now (log .exit)) ⌝ }
+{
+    judge::judge(s, log)
 }
 
 // The outcome of a command's checks. The lent log is written anew from position 0 on.

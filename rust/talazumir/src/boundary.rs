@@ -35,13 +35,18 @@ extern "C" {
 // pointer.
 
 pub(crate) fn verdict(octets: &[u8], log: &mut [u32; LOG_NUMBERS]) -> Verdict {
-    // SAFETY: the slice is read, the log of 1,792 numbers written; see above.
+    // SAFETY: the slice is read, the log of 2,304 numbers written; see above.
     unsafe { talazumir_verdict(octets.as_ptr(), octets.len(), log.as_mut_ptr()) }
 }
 
-pub(crate) fn read(octets: &[u8], record: &mut [u32; RECORD_NUMBERS]) -> Verdict {
-    // SAFETY: the slice is read, the record of 1,799 numbers written; see above.
-    unsafe { talazumir_read(octets.as_ptr(), octets.len(), record.as_mut_ptr()) }
+/// The verdict, and the numbers of the record, all 0 with a refusal. The call sets them all, so they are not cleared
+/// before it.
+pub(crate) fn read(octets: &[u8]) -> (Verdict, Box<[u32; RECORD_NUMBERS]>) {
+    let mut record = Box::<[u32; RECORD_NUMBERS]>::new_uninit();
+    // SAFETY: the slice is read, the record of 1,799 numbers written, whatever its memory holds; see above.
+    let verdict = unsafe { talazumir_read(octets.as_ptr(), octets.len(), record.as_mut_ptr().cast()) };
+    // SAFETY: the call is proved to leave the numbers of a record, the empty one with a refusal, in all 1,799 places.
+    (verdict, unsafe { record.assume_init() })
 }
 
 pub(crate) fn data(record: &[u32; RECORD_NUMBERS], position: usize, octets: &[u8]) -> Part {
@@ -76,6 +81,6 @@ pub(crate) fn link_fresh() -> State {
 
 pub(crate) fn link_take(state: State, fragment: &[u8], buffer: &mut [u8], log: &mut [u32; LOG_NUMBERS]) -> Step {
     let (room, log) = (buffer.len(), log.as_mut_ptr());
-    // SAFETY: the fragment is only read, the buffer and the log of 1,792 numbers are written; see above.
+    // SAFETY: the fragment is only read, the buffer and the log of 2,304 numbers are written; see above.
     unsafe { talazumir_link_take(state, fragment.as_ptr(), fragment.len(), buffer.as_mut_ptr(), room, log) }
 }

@@ -14,7 +14,7 @@ is_warned_of! {
     Taken: "talazumir::Link::new().take(&[])";
     Commands: "talazumir::Link::new().commands([[1]])";
     State: "talazumir::lent::State::fresh()";
-    Step: "talazumir::lent::take(talazumir::lent::State::fresh(), &[], &mut [], &mut [0; 1_792])";
-    Verdict: "talazumir::lent::verdict(&[], &mut [0; 1_792])";
+    Step: "talazumir::lent::take(talazumir::lent::State::fresh(), &[], &mut [], &mut [0; 2_304])";
+    Verdict: "talazumir::lent::verdict(&[], &mut [0; 2_304])";
     Written: "talazumir::canonical(&[], &mut [])";
 }

@@ -4,9 +4,9 @@
 use crate::link::Progress;
 use crate::{boundary, Verdict, MOST_AVPS};
 
-/// The numbers of a log, seven for each AVP. It is scratch memory: whatever it holds before a call plays no part, and
+/// The numbers of a log, nine for each AVP. It is scratch memory: whatever it holds before a call plays no part, and
 /// what it holds afterwards is no record.
-pub const LOG_NUMBERS: usize = 7 * MOST_AVPS;
+pub const LOG_NUMBERS: usize = 9 * MOST_AVPS;
 
 /// The octets of the buffer that a link's commands are put together in, at least.
 pub const BUFFER: usize = 16_384;

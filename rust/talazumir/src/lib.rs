@@ -199,10 +199,9 @@ impl Record {
 
 /// The record of an accepted command, or the verdict that refuses it.
 pub fn read(octets: &[u8]) -> Result<Record, Verdict> {
-    let mut record = Record::from_numbers([0; RECORD_NUMBERS]);
-    let verdict = boundary::read(octets, &mut record.numbers);
+    let (verdict, numbers) = boundary::read(octets);
     if verdict.is_accepted() {
-        Ok(record)
+        Ok(Record { numbers })
     } else {
         Err(verdict)
     }

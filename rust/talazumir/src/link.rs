@@ -135,7 +135,7 @@ impl Link {
 }
 
 impl fmt::Debug for Link {
-    /// The state, without the memory behind it: 16,384 octets and 1,792 numbers.
+    /// The state, without the memory behind it: 16,384 octets and 2,304 numbers.
     fn fmt(&self, f: &mut fmt::Formatter<'_>) -> fmt::Result {
         f.debug_struct("Link").field("state", &self.state).field("found", &self.found).finish_non_exhaustive()
     }

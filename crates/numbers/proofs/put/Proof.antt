@@ -1,19 +1,20 @@
--- `numbers::put` meets its contract. With the AVPs from i on set, the numbers are those of the record.
+-- `numbers::put` meets its contract. With the AVPs from i on put, the numbers are those of the record.
 use borrow.Author.Needs.{needs}
-use mathlib.Core.Path.{_≡_, sym, ap, _∙_}
+use mathlib.Core.Path.{_≡_, refl, sym, ap, _∙_}
 use mathlib.Core.List.{List}
 use Prim.Native.Nat.{ℕ, _≤_, _-_}
 use native.Mathlib.Omega.{arith}
-use lib.ListN.{length}
+use lib.ListN.{length, drop}
 use Rattle.rules.specs.Walk.{mostAvps}
 use Rattle.lookup.proofs.Positions.{length-mapped}
-use Rattle.numbers.specs.Numbers.{numbersOf}
-use Rattle.numbers.proofs.Numbers.{rest, rest-all, rest-put, rest-none}
+use Rattle.numbers.specs.Numbers.{numbersOf, putAvps}
+use Rattle.numbers.proofs.Puts.{put-next, put-end, put-whole}
 use Rattle.numbers.proofs.put.Statement.{statement}
 use Rattle.numbers.proofs.put.Tie as tie
 
 abbrev Inv-loop : tie.InvT-loop
-Inv-loop numbers₀ «record» i₀ numbers i = (i ≤ mostAvps) × ((f : length («record» .avps) ≡ mostAvps) → rest «record» f numbers i ≡ numbersOf «record»)
+Inv-loop numbers₀ «record» i₀ numbers i =
+    (i ≤ mostAvps) × (putAvps numbers i (drop i («record» .avps)) ≡ numbersOf «record»)
 
 abbrev μ-loop : tie.MeasureT-loop
 μ-loop numbers₀ «record» i₀ numbers i = mostAvps - i
@@ -32,7 +33,8 @@ loop-holds c =
     let h = c .before .before in
     let a = h .before .before .args in (
       omega arith,
-      λ f. ap (λ (l : List ℕ). rest (a .t2) f l 0) (c .put-head .ensures) ∙ rest-all (a .t2) f (a .numbers .now) (h .size .ensures .1),
+      ap (λ (l : List ℕ). putAvps l 0 (a .t2 .avps)) (c .put-head .ensures)
+          ∙ put-whole (a .numbers .now) (h .size .ensures .1) (a .t2) (full (h .before .before)),
     )
 
 mul-put-avp : tie.Need-mul-put-avp Inv-loop μ-loop
@@ -56,7 +58,7 @@ loop-again c =
     let st = c .before .before .before .before .before .before .before .before .before in
     let r = st .args .t2 in (
       omega arith,
-      λ f. rest-put r f (l .numbers) (l .i) (omega arith) _ (c .put-avp .ensures) ∙ l .inv .1 f,
+      put-next (l .numbers) (l .i) _ _ (c .put-avp .ensures) (r .avps) (rw (full st) (omega arith)) refl ∙ l .inv .1,
     )
 
 returns : tie.Need-returns Inv-loop μ-loop
@@ -64,8 +66,7 @@ returns c =
     let l = c .before .loop in
     let st = c .before .before .before .before .before .before in
     let r = st .args .t2 in
-    let f = full st in
-    sym (rest-none r f (l .numbers) (l .i) (omega arith)) ∙ l .inv .1 f
+    sym (put-end (l .numbers) (l .i) (r .avps) (rw (full st) (omega arith))) ∙ l .inv .1
 
 pub put-spec : {M : Type 1} → statement M
 put-spec =
