@@ -22,7 +22,7 @@ extern "C" {
 #define TALAZUMIR_NONE 256
 
 /* The numbers of a log, the scratch memory of a verdict. */
-#define TALAZUMIR_LOG_NUMBERS 1792
+#define TALAZUMIR_LOG_NUMBERS 2304
 
 /* The octets of the buffer that a link's commands are put together in, at least. */
 #define TALAZUMIR_LINK_BUFFER 16384

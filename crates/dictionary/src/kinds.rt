@@ -1,6 +1,6 @@
-// The AVP kinds of document 01's dictionary, in the order of its entries: Vendor-Id and AVP code as constants of each
-// kind, and the number of its entry, which is its position. The dictionary, the rows and the exchange rules name an AVP
-// by these alone.
+// The AVP kinds of document 01's dictionary, in the order of its entries: Vendor-Id, AVP code and, where it is fixed,
+// the width of the data, as constants of each kind; the number of its entry, which is its position; and the facts of the
+// entry in one number. The dictionary, the rows and the exchange rules name an AVP by these alone.
 use rules::limits::NO_VENDOR;
 use rules::limits::VENDOR_3GPP;
 
@@ -9,6 +9,15 @@ pub const NO_ENTRY: u8 = 48;
 
 // How many entries there are.
 pub const ENTRIES: usize = NO_ENTRY as usize;
+
+// The facts of an entry as digits of one number: whether M must be set, whether the data is a group, and its width.
+const M_FREE: u8 = 0;
+
+pub(crate) const M_REQUIRED: u8 = 1;
+
+pub(crate) const GROUP: u8 = 2;
+
+pub(crate) const ONE_OCTET: u8 = 4;
 
 // RFC 6733: four octets
 
@@ -19,7 +28,11 @@ impl AuthApplicationId {
 
     pub const CODE: u32 = 258;
 
+    pub const WIDTH: u32 = 4;
+
     pub const ENTRY: u8 = 0;
+
+    pub const FACTS: u8 = M_REQUIRED + ONE_OCTET * AuthApplicationId::WIDTH as u8;
 }
 
 pub struct AcctApplicationId;
@@ -29,7 +42,11 @@ impl AcctApplicationId {
 
     pub const CODE: u32 = 259;
 
+    pub const WIDTH: u32 = 4;
+
     pub const ENTRY: u8 = 1;
+
+    pub const FACTS: u8 = M_REQUIRED + ONE_OCTET * AcctApplicationId::WIDTH as u8;
 }
 
 pub struct RedirectHostUsage;
@@ -39,7 +56,11 @@ impl RedirectHostUsage {
 
     pub const CODE: u32 = 261;
 
+    pub const WIDTH: u32 = 4;
+
     pub const ENTRY: u8 = 2;
+
+    pub const FACTS: u8 = M_REQUIRED + ONE_OCTET * RedirectHostUsage::WIDTH as u8;
 }
 
 pub struct RedirectMaxCacheTime;
@@ -49,7 +70,11 @@ impl RedirectMaxCacheTime {
 
     pub const CODE: u32 = 262;
 
+    pub const WIDTH: u32 = 4;
+
     pub const ENTRY: u8 = 3;
+
+    pub const FACTS: u8 = M_REQUIRED + ONE_OCTET * RedirectMaxCacheTime::WIDTH as u8;
 }
 
 pub struct VendorId;
@@ -59,7 +84,11 @@ impl VendorId {
 
     pub const CODE: u32 = 266;
 
+    pub const WIDTH: u32 = 4;
+
     pub const ENTRY: u8 = 4;
+
+    pub const FACTS: u8 = M_REQUIRED + ONE_OCTET * VendorId::WIDTH as u8;
 }
 
 pub struct ResultCode;
@@ -69,7 +98,11 @@ impl ResultCode {
 
     pub const CODE: u32 = 268;
 
+    pub const WIDTH: u32 = 4;
+
     pub const ENTRY: u8 = 5;
+
+    pub const FACTS: u8 = M_REQUIRED + ONE_OCTET * ResultCode::WIDTH as u8;
 }
 
 pub struct AuthSessionState;
@@ -79,7 +112,11 @@ impl AuthSessionState {
 
     pub const CODE: u32 = 277;
 
+    pub const WIDTH: u32 = 4;
+
     pub const ENTRY: u8 = 6;
+
+    pub const FACTS: u8 = M_REQUIRED + ONE_OCTET * AuthSessionState::WIDTH as u8;
 }
 
 pub struct OriginStateId;
@@ -89,7 +126,11 @@ impl OriginStateId {
 
     pub const CODE: u32 = 278;
 
+    pub const WIDTH: u32 = 4;
+
     pub const ENTRY: u8 = 7;
+
+    pub const FACTS: u8 = M_REQUIRED + ONE_OCTET * OriginStateId::WIDTH as u8;
 }
 
 pub struct ExperimentalResultCode;
@@ -99,7 +140,11 @@ impl ExperimentalResultCode {
 
     pub const CODE: u32 = 298;
 
+    pub const WIDTH: u32 = 4;
+
     pub const ENTRY: u8 = 8;
+
+    pub const FACTS: u8 = M_REQUIRED + ONE_OCTET * ExperimentalResultCode::WIDTH as u8;
 }
 
 // RFC 6733: any length
@@ -112,6 +157,8 @@ impl SessionId {
     pub const CODE: u32 = 263;
 
     pub const ENTRY: u8 = 9;
+
+    pub const FACTS: u8 = M_REQUIRED;
 }
 
 pub struct OriginHost;
@@ -122,6 +169,8 @@ impl OriginHost {
     pub const CODE: u32 = 264;
 
     pub const ENTRY: u8 = 10;
+
+    pub const FACTS: u8 = M_REQUIRED;
 }
 
 pub struct OriginRealm;
@@ -132,6 +181,8 @@ impl OriginRealm {
     pub const CODE: u32 = 296;
 
     pub const ENTRY: u8 = 11;
+
+    pub const FACTS: u8 = M_REQUIRED;
 }
 
 pub struct DestinationHost;
@@ -142,6 +193,8 @@ impl DestinationHost {
     pub const CODE: u32 = 293;
 
     pub const ENTRY: u8 = 12;
+
+    pub const FACTS: u8 = M_REQUIRED;
 }
 
 pub struct DestinationRealm;
@@ -152,6 +205,8 @@ impl DestinationRealm {
     pub const CODE: u32 = 283;
 
     pub const ENTRY: u8 = 13;
+
+    pub const FACTS: u8 = M_REQUIRED;
 }
 
 pub struct RedirectHost;
@@ -162,6 +217,8 @@ impl RedirectHost {
     pub const CODE: u32 = 292;
 
     pub const ENTRY: u8 = 14;
+
+    pub const FACTS: u8 = M_REQUIRED;
 }
 
 pub struct ProxyHost;
@@ -172,6 +229,8 @@ impl ProxyHost {
     pub const CODE: u32 = 280;
 
     pub const ENTRY: u8 = 15;
+
+    pub const FACTS: u8 = M_REQUIRED;
 }
 
 pub struct ProxyState;
@@ -182,6 +241,8 @@ impl ProxyState {
     pub const CODE: u32 = 33;
 
     pub const ENTRY: u8 = 16;
+
+    pub const FACTS: u8 = M_REQUIRED;
 }
 
 pub struct RouteRecord;
@@ -192,6 +253,8 @@ impl RouteRecord {
     pub const CODE: u32 = 282;
 
     pub const ENTRY: u8 = 17;
+
+    pub const FACTS: u8 = M_REQUIRED;
 }
 
 pub struct FailedAvp;
@@ -202,6 +265,8 @@ impl FailedAvp {
     pub const CODE: u32 = 279;
 
     pub const ENTRY: u8 = 18;
+
+    pub const FACTS: u8 = M_REQUIRED;
 }
 
 // RFC 6733: any length, M free
@@ -214,6 +279,8 @@ impl ErrorMessage {
     pub const CODE: u32 = 281;
 
     pub const ENTRY: u8 = 19;
+
+    pub const FACTS: u8 = M_FREE;
 }
 
 pub struct ErrorReportingHost;
@@ -224,6 +291,8 @@ impl ErrorReportingHost {
     pub const CODE: u32 = 294;
 
     pub const ENTRY: u8 = 20;
+
+    pub const FACTS: u8 = M_FREE;
 }
 
 // RFC 6733: groups
@@ -236,6 +305,8 @@ impl VendorSpecificApplicationId {
     pub const CODE: u32 = 260;
 
     pub const ENTRY: u8 = 21;
+
+    pub const FACTS: u8 = M_REQUIRED + GROUP;
 }
 
 pub struct ExperimentalResult;
@@ -246,6 +317,8 @@ impl ExperimentalResult {
     pub const CODE: u32 = 297;
 
     pub const ENTRY: u8 = 22;
+
+    pub const FACTS: u8 = M_REQUIRED + GROUP;
 }
 
 pub struct ProxyInfo;
@@ -256,6 +329,8 @@ impl ProxyInfo {
     pub const CODE: u32 = 284;
 
     pub const ENTRY: u8 = 23;
+
+    pub const FACTS: u8 = M_REQUIRED + GROUP;
 }
 
 // RFC 4006: four octets
@@ -267,7 +342,11 @@ impl RatingGroup {
 
     pub const CODE: u32 = 432;
 
+    pub const WIDTH: u32 = 4;
+
     pub const ENTRY: u8 = 24;
+
+    pub const FACTS: u8 = M_REQUIRED + ONE_OCTET * RatingGroup::WIDTH as u8;
 }
 
 // RFC 4006: eight octets
@@ -279,7 +358,11 @@ impl CcInputOctets {
 
     pub const CODE: u32 = 412;
 
+    pub const WIDTH: u32 = 8;
+
     pub const ENTRY: u8 = 25;
+
+    pub const FACTS: u8 = M_REQUIRED + ONE_OCTET * CcInputOctets::WIDTH as u8;
 }
 
 pub struct CcOutputOctets;
@@ -289,7 +372,11 @@ impl CcOutputOctets {
 
     pub const CODE: u32 = 414;
 
+    pub const WIDTH: u32 = 8;
+
     pub const ENTRY: u8 = 26;
+
+    pub const FACTS: u8 = M_REQUIRED + ONE_OCTET * CcOutputOctets::WIDTH as u8;
 }
 
 pub struct CcTotalOctets;
@@ -299,7 +386,11 @@ impl CcTotalOctets {
 
     pub const CODE: u32 = 421;
 
+    pub const WIDTH: u32 = 8;
+
     pub const ENTRY: u8 = 27;
+
+    pub const FACTS: u8 = M_REQUIRED + ONE_OCTET * CcTotalOctets::WIDTH as u8;
 }
 
 // No vendor, M free: four octets
@@ -311,7 +402,11 @@ impl Drmp {
 
     pub const CODE: u32 = 301;
 
+    pub const WIDTH: u32 = 4;
+
     pub const ENTRY: u8 = 28;
+
+    pub const FACTS: u8 = ONE_OCTET * Drmp::WIDTH as u8;
 }
 
 // No vendor, M free: any length
@@ -324,6 +419,8 @@ impl OcSupportedFeatures {
     pub const CODE: u32 = 621;
 
     pub const ENTRY: u8 = 29;
+
+    pub const FACTS: u8 = M_FREE;
 }
 
 pub struct OcOlr;
@@ -334,6 +431,8 @@ impl OcOlr {
     pub const CODE: u32 = 623;
 
     pub const ENTRY: u8 = 30;
+
+    pub const FACTS: u8 = M_FREE;
 }
 
 pub struct Load;
@@ -344,6 +443,8 @@ impl Load {
     pub const CODE: u32 = 650;
 
     pub const ENTRY: u8 = 31;
+
+    pub const FACTS: u8 = M_FREE;
 }
 
 // 3GPP, M free: four octets
@@ -355,7 +456,11 @@ impl FeatureListId {
 
     pub const CODE: u32 = 629;
 
+    pub const WIDTH: u32 = 4;
+
     pub const ENTRY: u8 = 32;
+
+    pub const FACTS: u8 = ONE_OCTET * FeatureListId::WIDTH as u8;
 }
 
 pub struct FeatureList;
@@ -365,7 +470,11 @@ impl FeatureList {
 
     pub const CODE: u32 = 630;
 
+    pub const WIDTH: u32 = 4;
+
     pub const ENTRY: u8 = 33;
+
+    pub const FACTS: u8 = ONE_OCTET * FeatureList::WIDTH as u8;
 }
 
 // 3GPP, M free: any length
@@ -378,6 +487,8 @@ impl ApplicationServiceProviderIdentity {
     pub const CODE: u32 = 532;
 
     pub const ENTRY: u8 = 34;
+
+    pub const FACTS: u8 = M_FREE;
 }
 
 pub struct PcrfAddress;
@@ -388,6 +499,8 @@ impl PcrfAddress {
     pub const CODE: u32 = 2207;
 
     pub const ENTRY: u8 = 35;
+
+    pub const FACTS: u8 = M_FREE;
 }
 
 // 3GPP, M free: a group
@@ -400,6 +513,8 @@ impl SupportedFeatures {
     pub const CODE: u32 = 628;
 
     pub const ENTRY: u8 = 36;
+
+    pub const FACTS: u8 = M_FREE + GROUP;
 }
 
 // 3GPP: four octets
@@ -411,7 +526,11 @@ impl MaxRequestedBandwidthDl {
 
     pub const CODE: u32 = 515;
 
+    pub const WIDTH: u32 = 4;
+
     pub const ENTRY: u8 = 37;
+
+    pub const FACTS: u8 = M_REQUIRED + ONE_OCTET * MaxRequestedBandwidthDl::WIDTH as u8;
 }
 
 pub struct MaxRequestedBandwidthUl;
@@ -421,7 +540,11 @@ impl MaxRequestedBandwidthUl {
 
     pub const CODE: u32 = 516;
 
+    pub const WIDTH: u32 = 4;
+
     pub const ENTRY: u8 = 38;
+
+    pub const FACTS: u8 = M_REQUIRED + ONE_OCTET * MaxRequestedBandwidthUl::WIDTH as u8;
 }
 
 pub struct TransferRequestType;
@@ -431,7 +554,11 @@ impl TransferRequestType {
 
     pub const CODE: u32 = 4203;
 
+    pub const WIDTH: u32 = 4;
+
     pub const ENTRY: u8 = 39;
+
+    pub const FACTS: u8 = M_REQUIRED + ONE_OCTET * TransferRequestType::WIDTH as u8;
 }
 
 pub struct TransferEndTime;
@@ -441,7 +568,11 @@ impl TransferEndTime {
 
     pub const CODE: u32 = 4205;
 
+    pub const WIDTH: u32 = 4;
+
     pub const ENTRY: u8 = 40;
+
+    pub const FACTS: u8 = M_REQUIRED + ONE_OCTET * TransferEndTime::WIDTH as u8;
 }
 
 pub struct TransferStartTime;
@@ -451,7 +582,11 @@ impl TransferStartTime {
 
     pub const CODE: u32 = 4206;
 
+    pub const WIDTH: u32 = 4;
+
     pub const ENTRY: u8 = 41;
+
+    pub const FACTS: u8 = M_REQUIRED + ONE_OCTET * TransferStartTime::WIDTH as u8;
 }
 
 pub struct TransferPolicyId;
@@ -461,7 +596,11 @@ impl TransferPolicyId {
 
     pub const CODE: u32 = 4208;
 
+    pub const WIDTH: u32 = 4;
+
     pub const ENTRY: u8 = 42;
+
+    pub const FACTS: u8 = M_REQUIRED + ONE_OCTET * TransferPolicyId::WIDTH as u8;
 }
 
 pub struct NumberOfUes;
@@ -471,7 +610,11 @@ impl NumberOfUes {
 
     pub const CODE: u32 = 4209;
 
+    pub const WIDTH: u32 = 4;
+
     pub const ENTRY: u8 = 43;
+
+    pub const FACTS: u8 = M_REQUIRED + ONE_OCTET * NumberOfUes::WIDTH as u8;
 }
 
 // 3GPP: any length
@@ -484,6 +627,8 @@ impl NetworkAreaInfoList {
     pub const CODE: u32 = 4201;
 
     pub const ENTRY: u8 = 44;
+
+    pub const FACTS: u8 = M_REQUIRED;
 }
 
 pub struct ReferenceId;
@@ -494,6 +639,8 @@ impl ReferenceId {
     pub const CODE: u32 = 4202;
 
     pub const ENTRY: u8 = 45;
+
+    pub const FACTS: u8 = M_REQUIRED;
 }
 
 // 3GPP: groups
@@ -506,6 +653,8 @@ impl TimeWindow {
     pub const CODE: u32 = 4204;
 
     pub const ENTRY: u8 = 46;
+
+    pub const FACTS: u8 = M_REQUIRED + GROUP;
 }
 
 pub struct TransferPolicy;
@@ -516,4 +665,6 @@ impl TransferPolicy {
     pub const CODE: u32 = 4207;
 
     pub const ENTRY: u8 = 47;
+
+    pub const FACTS: u8 = M_REQUIRED + GROUP;
 }

@@ -218,80 +218,62 @@ pub fn is_known(entry: u8) -> bool
     entry < kinds::NO_ENTRY
 }
 
-// The facts of an entry as digits of one number: whether M must be set, whether the data is a group, and its width.
-const M_REQUIRED: u8 = 1;
-
-const GROUP: u8 = 2;
-
-const ONE_OCTET: u8 = 4;
-
-const ANY_LENGTH: u8 = 0;
-
-const FOUR_OCTETS: u8 = 4 * ONE_OCTET;
-
-const M_ANY_LENGTH: u8 = M_REQUIRED + ANY_LENGTH;
-
-const M_GROUP: u8 = M_REQUIRED + GROUP;
-
-const M_FOUR_OCTETS: u8 = M_REQUIRED + FOUR_OCTETS;
-
-const M_EIGHT_OCTETS: u8 = M_REQUIRED + 8 * ONE_OCTET;
-
 // The facts of an entry, none where the number is no entry's. Every entry has an arm: a dense `match` is compiled to
 // masks and tables.
 fn facts(entry: u8) -> u8
     ensures { λ r. ⌜ r ≡ factsOf (definitionAt dictionary entry) ⌝ }
 {
     match entry {
-        kinds::AuthApplicationId::ENTRY => M_FOUR_OCTETS,
-        kinds::AcctApplicationId::ENTRY => M_FOUR_OCTETS,
-        kinds::RedirectHostUsage::ENTRY => M_FOUR_OCTETS,
-        kinds::RedirectMaxCacheTime::ENTRY => M_FOUR_OCTETS,
-        kinds::VendorId::ENTRY => M_FOUR_OCTETS,
-        kinds::ResultCode::ENTRY => M_FOUR_OCTETS,
-        kinds::AuthSessionState::ENTRY => M_FOUR_OCTETS,
-        kinds::OriginStateId::ENTRY => M_FOUR_OCTETS,
-        kinds::ExperimentalResultCode::ENTRY => M_FOUR_OCTETS,
-        kinds::SessionId::ENTRY => M_ANY_LENGTH,
-        kinds::OriginHost::ENTRY => M_ANY_LENGTH,
-        kinds::OriginRealm::ENTRY => M_ANY_LENGTH,
-        kinds::DestinationHost::ENTRY => M_ANY_LENGTH,
-        kinds::DestinationRealm::ENTRY => M_ANY_LENGTH,
-        kinds::RedirectHost::ENTRY => M_ANY_LENGTH,
-        kinds::ProxyHost::ENTRY => M_ANY_LENGTH,
-        kinds::ProxyState::ENTRY => M_ANY_LENGTH,
-        kinds::RouteRecord::ENTRY => M_ANY_LENGTH,
-        kinds::FailedAvp::ENTRY => M_ANY_LENGTH,
-        kinds::ErrorMessage::ENTRY => ANY_LENGTH,
-        kinds::ErrorReportingHost::ENTRY => ANY_LENGTH,
-        kinds::VendorSpecificApplicationId::ENTRY => M_GROUP,
-        kinds::ExperimentalResult::ENTRY => M_GROUP,
-        kinds::ProxyInfo::ENTRY => M_GROUP,
-        kinds::RatingGroup::ENTRY => M_FOUR_OCTETS,
-        kinds::CcInputOctets::ENTRY => M_EIGHT_OCTETS,
-        kinds::CcOutputOctets::ENTRY => M_EIGHT_OCTETS,
-        kinds::CcTotalOctets::ENTRY => M_EIGHT_OCTETS,
-        kinds::Drmp::ENTRY => FOUR_OCTETS,
-        kinds::OcSupportedFeatures::ENTRY => ANY_LENGTH,
-        kinds::OcOlr::ENTRY => ANY_LENGTH,
-        kinds::Load::ENTRY => ANY_LENGTH,
-        kinds::FeatureListId::ENTRY => FOUR_OCTETS,
-        kinds::FeatureList::ENTRY => FOUR_OCTETS,
-        kinds::ApplicationServiceProviderIdentity::ENTRY => ANY_LENGTH,
-        kinds::PcrfAddress::ENTRY => ANY_LENGTH,
-        kinds::SupportedFeatures::ENTRY => GROUP,
-        kinds::MaxRequestedBandwidthDl::ENTRY => M_FOUR_OCTETS,
-        kinds::MaxRequestedBandwidthUl::ENTRY => M_FOUR_OCTETS,
-        kinds::TransferRequestType::ENTRY => M_FOUR_OCTETS,
-        kinds::TransferEndTime::ENTRY => M_FOUR_OCTETS,
-        kinds::TransferStartTime::ENTRY => M_FOUR_OCTETS,
-        kinds::TransferPolicyId::ENTRY => M_FOUR_OCTETS,
-        kinds::NumberOfUes::ENTRY => M_FOUR_OCTETS,
-        kinds::NetworkAreaInfoList::ENTRY => M_ANY_LENGTH,
-        kinds::ReferenceId::ENTRY => M_ANY_LENGTH,
-        kinds::TimeWindow::ENTRY => M_GROUP,
-        kinds::TransferPolicy::ENTRY => M_GROUP,
-        _ => ANY_LENGTH,
+        kinds::AuthApplicationId::ENTRY => kinds::AuthApplicationId::FACTS,
+        kinds::AcctApplicationId::ENTRY => kinds::AcctApplicationId::FACTS,
+        kinds::RedirectHostUsage::ENTRY => kinds::RedirectHostUsage::FACTS,
+        kinds::RedirectMaxCacheTime::ENTRY => kinds::RedirectMaxCacheTime::FACTS,
+        kinds::VendorId::ENTRY => kinds::VendorId::FACTS,
+        kinds::ResultCode::ENTRY => kinds::ResultCode::FACTS,
+        kinds::AuthSessionState::ENTRY => kinds::AuthSessionState::FACTS,
+        kinds::OriginStateId::ENTRY => kinds::OriginStateId::FACTS,
+        kinds::ExperimentalResultCode::ENTRY => kinds::ExperimentalResultCode::FACTS,
+        kinds::SessionId::ENTRY => kinds::SessionId::FACTS,
+        kinds::OriginHost::ENTRY => kinds::OriginHost::FACTS,
+        kinds::OriginRealm::ENTRY => kinds::OriginRealm::FACTS,
+        kinds::DestinationHost::ENTRY => kinds::DestinationHost::FACTS,
+        kinds::DestinationRealm::ENTRY => kinds::DestinationRealm::FACTS,
+        kinds::RedirectHost::ENTRY => kinds::RedirectHost::FACTS,
+        kinds::ProxyHost::ENTRY => kinds::ProxyHost::FACTS,
+        kinds::ProxyState::ENTRY => kinds::ProxyState::FACTS,
+        kinds::RouteRecord::ENTRY => kinds::RouteRecord::FACTS,
+        kinds::FailedAvp::ENTRY => kinds::FailedAvp::FACTS,
+        kinds::ErrorMessage::ENTRY => kinds::ErrorMessage::FACTS,
+        kinds::ErrorReportingHost::ENTRY => kinds::ErrorReportingHost::FACTS,
+        kinds::VendorSpecificApplicationId::ENTRY => kinds::VendorSpecificApplicationId::FACTS,
+        kinds::ExperimentalResult::ENTRY => kinds::ExperimentalResult::FACTS,
+        kinds::ProxyInfo::ENTRY => kinds::ProxyInfo::FACTS,
+        kinds::RatingGroup::ENTRY => kinds::RatingGroup::FACTS,
+        kinds::CcInputOctets::ENTRY => kinds::CcInputOctets::FACTS,
+        kinds::CcOutputOctets::ENTRY => kinds::CcOutputOctets::FACTS,
+        kinds::CcTotalOctets::ENTRY => kinds::CcTotalOctets::FACTS,
+        kinds::Drmp::ENTRY => kinds::Drmp::FACTS,
+        kinds::OcSupportedFeatures::ENTRY => kinds::OcSupportedFeatures::FACTS,
+        kinds::OcOlr::ENTRY => kinds::OcOlr::FACTS,
+        kinds::Load::ENTRY => kinds::Load::FACTS,
+        kinds::FeatureListId::ENTRY => kinds::FeatureListId::FACTS,
+        kinds::FeatureList::ENTRY => kinds::FeatureList::FACTS,
+        kinds::ApplicationServiceProviderIdentity::ENTRY =>
+            kinds::ApplicationServiceProviderIdentity::FACTS,
+        kinds::PcrfAddress::ENTRY => kinds::PcrfAddress::FACTS,
+        kinds::SupportedFeatures::ENTRY => kinds::SupportedFeatures::FACTS,
+        kinds::MaxRequestedBandwidthDl::ENTRY => kinds::MaxRequestedBandwidthDl::FACTS,
+        kinds::MaxRequestedBandwidthUl::ENTRY => kinds::MaxRequestedBandwidthUl::FACTS,
+        kinds::TransferRequestType::ENTRY => kinds::TransferRequestType::FACTS,
+        kinds::TransferEndTime::ENTRY => kinds::TransferEndTime::FACTS,
+        kinds::TransferStartTime::ENTRY => kinds::TransferStartTime::FACTS,
+        kinds::TransferPolicyId::ENTRY => kinds::TransferPolicyId::FACTS,
+        kinds::NumberOfUes::ENTRY => kinds::NumberOfUes::FACTS,
+        kinds::NetworkAreaInfoList::ENTRY => kinds::NetworkAreaInfoList::FACTS,
+        kinds::ReferenceId::ENTRY => kinds::ReferenceId::FACTS,
+        kinds::TimeWindow::ENTRY => kinds::TimeWindow::FACTS,
+        kinds::TransferPolicy::ENTRY => kinds::TransferPolicy::FACTS,
+        _ => 0,
     }
 }
 
@@ -299,21 +281,21 @@ fn facts(entry: u8) -> u8
 pub fn requires_m(entry: u8) -> bool
     ensures { λ r. ⌜ r ≡ requiresM (definitionAt dictionary entry) ⌝ }
 {
-    facts(entry) % GROUP == M_REQUIRED
+    facts(entry) % kinds::GROUP == kinds::M_REQUIRED
 }
 
 // The width of the data where it is fixed, 0 where any length passes.
 pub fn width(entry: u8) -> u32
     ensures { λ r. ⌜ r ≡ fixedWidth (definitionAt dictionary entry) ⌝ }
 {
-    (facts(entry) / ONE_OCTET) as u32
+    (facts(entry) / kinds::ONE_OCTET) as u32
 }
 
 // Whether the data is read as a list.
 pub fn is_group(entry: u8) -> bool
     ensures { λ r. ⌜ r ≡ isGroup (definitionAt dictionary entry) ⌝ }
 {
-    facts(entry) % ONE_OCTET >= GROUP
+    facts(entry) % kinds::ONE_OCTET >= kinds::GROUP
 }
 
 // The rows that the members of an entry's group go by.
