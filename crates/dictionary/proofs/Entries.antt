@@ -159,10 +159,15 @@ by-code (e ∷ es) vendor code t =
 
 -- ---- the members of a group by its code
 
+-- nothing is said of a number behind the last entry
+pub said-behind : {A : Type 0} (none : A) (says : Entry → A) (es : List Entry) (n : ℕ) → length es ≤ n → saidAt none says es n ≡ none
+said-behind none says [] n h = refl
+said-behind none says (e ∷ es) zero h = absurd (omega arith)
+said-behind none says (e ∷ es) (suc n) h = said-behind none says es n (omega arith)
+
 pub definition-behind : (es : List Entry) → definitionAt es (length es) ≡ Unknown
 unfolding definitionAt
-definition-behind [] = refl
-definition-behind (e ∷ es) = definition-behind es
+definition-behind es = said-behind Unknown (λ e. Known (e .m) (e .form)) es (length es) (omega arith)
 
 -- the rows of the group that a code leads to, where it has this vendor
 abbrev pub rowsBy : List Entry → ℕ → ℕ → Members

@@ -14,6 +14,7 @@ use Rattle.rules.specs.declared.Found.the-variants.{At, Nothing}
 use Rattle.rules.specs.Walk.{mostAvps}
 use Rattle.rules.specs.Dictionary.{Entry, dictionary}
 use Rattle.rules.proofs.Names.{both-hold}
+use Rattle.dictionary.proofs.Entries.{said-behind}
 use Rattle.dictionary.specs.Entries.{numberWhere, entryOf, saidAt, vendorOf, codeOf}
 use Rattle.exchange.specs.Positions.{FoundBelow}
 use Rattle.exchange.specs.Firsts.{findIn}
@@ -43,12 +44,6 @@ unfolding dictionary numberWhere vendorOf codeOf
 own-name entry h = eqb→eq (namedBy entry) entry (one-below (λ e. eqb (namedBy e) e) entries entry tt h)
 
 -- a number behind the last entry has the name of none
-said-behind : {A : Type 0} (none : A) (says : Entry → A) (es : List Entry) (n : ℕ) → length es ≤ n
-    → saidAt none says es n ≡ none
-said-behind none says [] n h = refl
-said-behind none says (e ∷ es) zero h = absurd (omega arith)
-said-behind none says (e ∷ es) (suc n) h = said-behind none says es n (omega arith)
-
 no-name : (entry : ℕ) → entries ≤ entry → namedBy entry ≡ entries
 unfolding dictionary numberWhere vendorOf codeOf
 no-name entry h =

@@ -2,4 +2,4 @@
 -- order.
 mod Places
 mod Finds
-mod Order
+pub mod Order

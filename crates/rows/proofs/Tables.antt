@@ -22,6 +22,7 @@ use Rattle.rules.specs.Rows.{Row, rowsOf}
 use Rattle.rules.specs.Dictionary.{Entry, dictionary}
 use Rattle.rules.specs.RowChecks.{isRequired, missingFrom, missing}
 use Rattle.rules.proofs.Names.{Absent}
+use Rattle.dictionary.proofs.Entries.{said-behind}
 use Rattle.dictionary.specs.Entries.{saidAt, vendorOf, codeOf}
 use Rattle.rows.specs.ByLog.{admissionAt}
 use Rattle.rows.specs.Tables.{lists, listAt, ListAt, entryPlaces, rowPlaces, markAt, markIn, admissionIn, AdmissionTable, Admits, rowIn, endOfRows, rowsFrom, RowTable}
@@ -106,15 +107,10 @@ admits-by table is g n entry r at h e = record {
   below = λ row mark p. row-below (getD table (n * entryPlaces + entry) 0) row mark _ refl (sym e ∙ p);
 }
 
-said-behind : {A : Type 0} (none : A) (says : Entry → A) (es : List Entry) (n : ℕ) → length es ≤ n → none ≡ saidAt none says es n
-said-behind none says [] n h = refl
-said-behind none says (e ∷ es) zero h = absurd (omega arith)
-said-behind none says (e ∷ es) (suc n) h = said-behind none says es n (omega arith)
-
 pub admits-none : (g : Grammar) (entry : ℕ) → entryPlaces ≤ entry → Admits g entry NoRow
 unfolding admissionAt
 admits-none g entry h = record {
-  is = said-behind NoRow _ dictionary entry h;
+  is = sym (said-behind NoRow _ dictionary entry h);
   below = λ row mark p. let z : _≡_ {A = ℕ} 0 1 = cc in absurd (omega arith);
 }
 

@@ -1,8 +1,10 @@
 -- `exchange::answer::policies_outcome` meets its contract.
-use mathlib.Core.Path.{sym, _∙_}
+use mathlib.Core.Path.{_≡_, sym, _∙_}
 use native.Mathlib.Omega.{arith}
 use borrow.Author.Needs.{needs}
+use Rattle.rules.specs.Header.{vendor3GPP}
 use Rattle.rules.specs.Dictionary.{dictionary}
+use Rattle.rules.specs.Exchange.{require}
 use Rattle.dictionary.specs.Entries.{vendorOf, codeOf}
 use Rattle.exchange.specs.Firsts.{findIn}
 use Rattle.exchange.proofs.Rules.{no-policy, policy-unreferenced, one-policy, more-policies}
@@ -87,9 +89,9 @@ returns-4 c =
     let a = f .before .args in
     let policy = sym (f .search .ensures .is) ∙ k .i .given .1 in
     let reference = sym (r .require .ensures) ∙ q .enum-told2 .given .1 in
-    c .require2 .ensures
-    ∙ more-policies (findIn (a .firsts .now) (a .count)) _ _ _ policy reference _
-    (sym (n .first .ensures .is) ∙ m .enum-told4 .given .1)
+    let find = findIn (a .firsts .now) (a .count) in
+    let address : c .require2 .result ≡ require find (a .end) vendor3GPP 2207 = c .require2 .ensures in
+    address ∙ more-policies find _ _ _ policy reference _ (sym (n .first .ensures .is) ∙ m .enum-told4 .given .1)
 
 pub policies-outcome-spec : {M : Type 1} → statement M
 policies-outcome-spec =

@@ -1,5 +1,5 @@
 -- `exchange::request::direction` meets its contract.
-use mathlib.Core.Path.{sym, _∙_}
+use mathlib.Core.Path.{_≡_, sym, _∙_}
 use borrow.Author.Needs.{needs}
 use Rattle.rules.specs.Dictionary.{dictionary}
 use Rattle.dictionary.specs.Entries.{vendorOf, codeOf}
@@ -25,8 +25,9 @@ unfolding dictionary vendorOf codeOf
 returns c =
     let f = c .before .before .before in
     let a = f .before .args in
-    let no-input = sym (f .search .ensures .is) ∙ c .before .enum-told2 .given .1 in
-    c .search2 .ensures .is ∙ direction-output (findIn (a .firsts .now) (a .count)) no-input
+    let find = findIn (a .firsts .now) (a .count) in
+    let output : c .search2 .result ≡ find 0 414 = c .search2 .ensures .is in
+    output ∙ direction-output find (sym (f .search .ensures .is) ∙ c .before .enum-told2 .given .1)
 
 returns-2 : tie.Need-returns-2
 unfolding dictionary vendorOf codeOf
