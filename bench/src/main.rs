@@ -1,88 +1,66 @@
-//! Measures the proved reader and the second reader side by side, in one run and on the same generated commands, and
-//! reports ratios: the proved reader's time over the second reader's. A ratio below 1 says that the proved reader is
-//! faster.
+//! Measures the proved reader and the second reader side by side and reports ratios: the proved reader's time over the
+//! second reader's on the same work. A ratio below 1 says that the proved reader is faster.
 //!
-//! `bench [SEED]`. The commands are of three sizes, accepted and refused apart. Rounds are interleaved, so that what
-//! else the computer does meets both; a ratio is of the two times of one round, and its median and range over the
-//! rounds are printed.
+//! `bench [SEED]` starts itself as several processes, one after the other, each with stack and heap elsewhere
+//! (`processes.rs`), and prints of each row the median and the range over the processes. `bench process SEED` is one
+//! of them; it prints the ratios of its rounds. `bench listing` prints the second reader's listing of the book on
+//! standard input, to be measured beside the program `verdicts`.
 
-use std::hint::black_box;
+use bench::processes::{EFFORT, PROCESSES};
+use bench::{listing, processes, summary, SEED};
+use std::env;
+use std::path::Path;
 use std::process::ExitCode;
-use std::time::{Duration, Instant};
-
-/// Octets that a round goes through at least.
-const OCTETS: usize = 20_000_000;
-const ROUNDS: usize = 21;
 
 fn main() -> ExitCode {
-    let words: Vec<String> = std::env::args().skip(1).collect();
-    let seed = match words.as_slice() {
-        [] => Some(bench::SEED),
-        [word] => word.parse().ok(),
+    let words: Vec<String> = env::args().skip(1).collect();
+    let words: Vec<&str> = words.iter().map(String::as_str).collect();
+    let done = match words[..] {
+        [] => Some(measure(run, SEED)),
+        ["listing"] => Some(listing::print_second().map_err(|error| error.to_string())),
+        ["process", seed] => seed.parse().ok().map(|seed| measure(process, seed)),
+        [seed] => seed.parse().ok().map(|seed| measure(run, seed)),
         _ => None,
     };
-    let Some(seed) = seed else {
-        eprintln!("usage: bench [SEED] (a number, {} if there is none)", bench::SEED);
-        return ExitCode::from(2);
-    };
-    if cfg!(debug_assertions) {
-        eprintln!("bench: this build has the checks of a debug build, which cost time: run it with --release");
-        return ExitCode::FAILURE;
-    }
-    println!(
-        "seed {seed}, {ROUNDS} rounds; ratio of times, proved reader to second reader: median (least to greatest)"
-    );
-    for (name, commands) in bench::mixes(seed) {
-        println!("{name}:");
-        measure(&commands);
-    }
-    ExitCode::SUCCESS
-}
-
-/// Measures and prints the four ratios of a mix. The proved reader's verdicts have one log for all commands.
-fn measure(commands: &[Vec<u8>]) {
-    let mut reader = talazumir::Reader::new();
-    let mut record = second_reader::Record::default();
-    let alone = rounds(commands, |octets| reader.verdict(octets), second_reader::verdict);
-    println!("  verdict against verdict alone          {}", summary(alone));
-    let reused =
-        rounds(commands, |octets| reader.verdict(octets), |octets| second_reader::read_into(octets, &mut record));
-    println!("  verdict against a record, room reused  {}", summary(reused));
-    let new = rounds(commands, |octets| reader.verdict(octets), second_reader::read);
-    println!("  verdict against a record, new vector   {}", summary(new));
-    let records = rounds(commands, talazumir::read, second_reader::read);
-    println!("  record against a record, new vector    {}", summary(records));
-}
-
-/// The ratio of each round.
-fn rounds<A, B>(
-    commands: &[Vec<u8>],
-    mut ours: impl FnMut(&[u8]) -> A,
-    mut theirs: impl FnMut(&[u8]) -> B,
-) -> Vec<f64> {
-    let octets: usize = commands.iter().map(Vec::len).sum();
-    let times = OCTETS.div_ceil(octets);
-    let mut ratios = Vec::new();
-    for _ in 0..ROUNDS {
-        let a = time(commands, times, &mut ours);
-        let b = time(commands, times, &mut theirs);
-        ratios.push(a.as_secs_f64() / b.as_secs_f64());
-    }
-    ratios
-}
-
-fn time<A>(commands: &[Vec<u8>], times: usize, read: &mut impl FnMut(&[u8]) -> A) -> Duration {
-    let start = Instant::now();
-    for _ in 0..times {
-        for octets in commands {
-            black_box(read(black_box(octets)));
+    match done {
+        Some(Ok(())) => ExitCode::SUCCESS,
+        Some(Err(words)) => {
+            eprintln!("bench: {words}");
+            ExitCode::FAILURE
+        }
+        None => {
+            eprintln!("usage: bench [SEED] (a number, {SEED} if there is none)");
+            ExitCode::from(2)
         }
     }
-    start.elapsed()
 }
 
-fn summary(mut ratios: Vec<f64>) -> String {
-    ratios.sort_by(f64::total_cmp);
-    let middle = ratios[ratios.len() / 2];
-    format!("{middle:.2} ({:.2} to {:.2})", ratios[0], ratios[ratios.len() - 1])
+/// Measures, with the path of this program, unless this build says nothing of the times of another.
+fn measure(work: fn(&Path, u64) -> Result<(), String>, seed: u64) -> Result<(), String> {
+    if cfg!(debug_assertions) {
+        return Err("this build has the checks of a debug build, which cost time: run it with --release".to_string());
+    }
+    let bench = env::current_exe().map_err(|error| error.to_string())?;
+    work(&bench, seed)
+}
+
+fn run(bench: &Path, seed: u64) -> Result<(), String> {
+    let text = summary::summary(&processes::run(bench, seed)?)?;
+    println!(
+        "seed {seed}, {PROCESSES} processes of {} rounds; ratio of times, proved reader to second reader: median \
+         (least to greatest) of the processes' medians",
+        EFFORT.rounds
+    );
+    print!("{text}");
+    if let Err(words) = listing::program() {
+        println!("listings were not measured: {words}");
+    }
+    Ok(())
+}
+
+fn process(bench: &Path, seed: u64) -> Result<(), String> {
+    for line in processes::lines(bench, seed)? {
+        println!("{line}");
+    }
+    Ok(())
 }

@@ -25,9 +25,9 @@ fn main() -> ExitCode {
 }
 
 fn write(folder: &str) -> Result<(), String> {
-    for (name, commands) in bench::mixes(bench::SEED) {
-        for (i, octets) in commands.iter().enumerate() {
-            let file = format!("{folder}/{}-{i:02}", name.replace([' ', ','], "-"));
+    for mix in bench::commands::mixes(bench::SEED) {
+        for (i, octets) in mix.commands.iter().enumerate() {
+            let file = format!("{folder}/{}-{i:02}", mix.name().replace([' ', ','], "-"));
             std::fs::write(&file, octets).map_err(|error| format!("{file}: {error}"))?;
         }
     }

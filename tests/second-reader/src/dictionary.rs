@@ -37,15 +37,6 @@ macro_rules! dictionary {
             /// Every known AVP.
             pub const ALL: &'static [Kind] = &[$(Kind::$kind),*];
 
-            /// The AVP with this vendor (0 without V) and code, if it is known.
-            #[inline]
-            pub const fn of(vendor: u32, code: u32) -> Option<Kind> {
-                match (vendor, code) {
-                    $(($vendor, $code) => Some(Kind::$kind),)*
-                    _ => None,
-                }
-            }
-
             /// Its vendor, 0 for none.
             pub const fn vendor(self) -> u32 {
                 match self { $(Kind::$kind => $vendor),* }
@@ -59,7 +50,8 @@ macro_rules! dictionary {
             /// The shape of its data.
             #[inline]
             pub const fn form(self) -> Form {
-                match self { $(Kind::$kind => Form::$form),* }
+                const FORMS: [Form; Kind::ALL.len()] = [$(Form::$form),*];
+                FORMS[self as usize]
             }
 
             /// Whether its M flag must be set.
@@ -127,6 +119,40 @@ dictionary! {
     TransferPolicy                10415 4207 Group  M,
 }
 
+/// The known AVPs without vendor, each at its code. A load finds one; a `match` on codes that lie so
+/// far apart is a search with a jump.
+static WITHOUT_VENDOR: [Option<Kind>; 651] = by_code(0);
+
+/// The known AVPs of 3GPP, each at its code.
+static OF_3GPP: [Option<Kind>; 4_210] = by_code(VENDOR_3GPP);
+
+/// The known AVPs of a vendor, each at its code.
+const fn by_code<const CODES: usize>(vendor: u32) -> [Option<Kind>; CODES] {
+    let mut kinds = [None; CODES];
+    let mut i = 0;
+    while i < Kind::ALL.len() {
+        let kind = Kind::ALL[i];
+        if kind.vendor() == vendor {
+            kinds[kind.code() as usize] = Some(kind);
+        }
+        i += 1;
+    }
+    kinds
+}
+
+impl Kind {
+    /// The AVP with this vendor (0 without V) and code, if it is known.
+    #[inline]
+    pub fn of(vendor: u32, code: u32) -> Option<Kind> {
+        let kinds: &[Option<Kind>] = match vendor {
+            0 => &WITHOUT_VENDOR,
+            VENDOR_3GPP => &OF_3GPP,
+            _ => return None,
+        };
+        *kinds.get(code as usize)?
+    }
+}
+
 /// The volumes of a transfer's directions.
 pub const DIRECTIONS: [Kind; 2] = [Kind::CcOutputOctets, Kind::CcInputOctets];
 
@@ -167,5 +193,20 @@ impl Kinds {
     /// Whether the set has all of those.
     pub const fn has_all(self, others: Kinds) -> bool {
         others.0 & !self.0 == 0
+    }
+}
+
+#[cfg(test)]
+mod tests {
+    use super::{Kind, VENDOR_3GPP};
+
+    #[test]
+    fn a_name_is_known_exactly_if_a_kind_has_it() {
+        for vendor in [0, 1, VENDOR_3GPP - 1, VENDOR_3GPP, VENDOR_3GPP + 1, u32::MAX] {
+            for code in (0..5_000).chain([u32::MAX - 1, u32::MAX]) {
+                let named = Kind::ALL.iter().find(|kind| (kind.vendor(), kind.code()) == (vendor, code));
+                assert_eq!(Kind::of(vendor, code).as_ref(), named, "{vendor} {code}");
+            }
+        }
     }
 }

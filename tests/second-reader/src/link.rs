@@ -1,5 +1,5 @@
-//! Commands from a link, whose fragments end anywhere (02, request 7): octet by octet, with a count of
-//! those that are still to come; and beside it what a run holds uncut, by its length fields alone.
+//! Commands from a link, whose fragments end anywhere (02, request 7): with a count of the octets that
+//! are still to come; and beside it what a run holds uncut, by its length fields alone.
 
 use crate::header::{HEADER, LONGEST_COMMAND};
 use crate::verdict::{number, Verdict};
@@ -46,7 +46,7 @@ enum Missing {
 }
 
 /// Takes octets of a fragment into the buffer until one ends a command, one refuses the run, or
-/// there are no more.
+/// there are no more: the first four of a command one by one, the others as many as are there.
 pub fn take(state: State, fragment: &[u8], buffer: &mut [u8]) -> Step {
     let refusal = |taken, number, place, state| {
         let progress = Progress::Refusal(Verdict::unnamed(number, place));
@@ -57,15 +57,19 @@ pub fn take(state: State, fragment: &[u8], buffer: &mut [u8]) -> Step {
         Err(number) => return refusal(0, number, 0, state),
     };
     let held = state.held as usize;
-    for (at, &octet) in fragment.iter().enumerate() {
-        buffer[held + at] = octet;
-        missing = match missing.less(octet) {
+    let mut taken = 0;
+    while taken < fragment.len() {
+        let rest = &fragment[taken..];
+        let part = &rest[..rest.len().min(missing.at_once())];
+        buffer[held + taken..][..part.len()].copy_from_slice(part);
+        taken += part.len();
+        missing = match missing.less(part) {
             Ok(missing) => missing,
-            Err(number) => return refusal(at + 1, number, 1, State { held: 4, stopped: 1 }),
+            Err(number) => return refusal(taken, number, 1, State { held: 4, stopped: 1 }),
         };
         if let Missing::Nothing = missing {
-            let verdict = crate::verdict(&buffer[..=held + at]);
-            return Step { taken: at + 1, progress: Progress::Command(verdict), state: State::default() };
+            let verdict = crate::verdict(&buffer[..held + taken]);
+            return Step { taken, progress: Progress::Command(verdict), state: State::default() };
         }
     }
     let state = State { held: state.held + fragment.len() as u32, stopped: 0 };
@@ -102,13 +106,25 @@ fn length(word: u32) -> Result<u32, u32> {
 }
 
 impl Missing {
-    /// What is missing with one octet more, or the number that refuses the run.
-    fn less(self, octet: u8) -> Result<Missing, u32> {
+    /// How many octets can be taken at once: of the first four one, so that none is taken behind a
+    /// length field that refuses the run.
+    fn at_once(&self) -> usize {
+        match *self {
+            Missing::Head { .. } => 1,
+            Missing::Body { more } => more as usize,
+            Missing::Nothing => 0,
+        }
+    }
+
+    /// What is missing with these octets more, no more than can be taken at once, or the number
+    /// that refuses the run.
+    fn less(self, part: &[u8]) -> Result<Missing, u32> {
+        let word = |word: u32| part.iter().fold(word, |word, &octet| word << 8 | u32::from(octet));
         Ok(match self {
-            Missing::Head { more: 1, word } => Missing::Body { more: length(word << 8 | u32::from(octet))? - 4 },
-            Missing::Head { more, word } => Missing::Head { more: more - 1, word: word << 8 | u32::from(octet) },
-            Missing::Body { more: 1 } | Missing::Nothing => Missing::Nothing,
-            Missing::Body { more } => Missing::Body { more: more - 1 },
+            Missing::Head { more: 1, word: first } => Missing::Body { more: length(word(first))? - 4 },
+            Missing::Head { more, word: first } => Missing::Head { more: more - 1, word: word(first) },
+            Missing::Body { more } if more as usize > part.len() => Missing::Body { more: more - part.len() as u32 },
+            Missing::Body { .. } | Missing::Nothing => Missing::Nothing,
         })
     }
 }

@@ -125,7 +125,8 @@ impl<K: Keep> Walk<'_, K> {
                 at += header.padded();
                 continue;
             };
-            match kind.form() {
+            let form = kind.form();
+            match form {
                 Form::Four => {
                     let Ok(value) = <[u8; 4]>::try_from(&self.octets[start..end]) else {
                         return refuse(number::INVALID_AVP_LENGTH);
@@ -149,8 +150,10 @@ impl<K: Keep> Walk<'_, K> {
             }
             self.keep(&header, depth, start);
             members.count(kind, at == from, at);
-            if let Some(rows) = rows::of_group(kind) {
-                self.group(kind, rows, depth, at, start, end)?;
+            if form == Form::Group {
+                if let Some(rows) = rows::of_group(kind) {
+                    self.group(kind, rows, depth, at, start, end)?;
+                }
             }
             at += header.padded();
         }

@@ -99,7 +99,8 @@ fn list_length(places: &[Place]) -> u64 {
 
 /// The octets of a draft that is not malformed and not too long.
 pub(crate) fn encode(draft: &Draft, octets: &[u8]) -> Vec<u8> {
-    let mut out = vec![0; HEADER];
+    let mut out = Vec::with_capacity(length(draft) as usize);
+    out.extend([0; HEADER]);
     put_list(draft.used(), octets, &mut out);
     let length = out.len() as u32;
     let flags = draft.r << 7 | draft.p << 6 | draft.e << 5 | draft.t << 4;
