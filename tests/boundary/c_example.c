@@ -121,7 +121,7 @@ int main(void) {
     printf("numbers of the record that are not 0: %zu\n", used(record, TALAZUMIR_RECORD_NUMBERS));
 
     print_verdict("S, verdict alone", talazumir_verdict(S, sizeof S, log_numbers));
-    print_numbers("log at position 10", log_numbers + 70, 7);
+    print_numbers("log at position 10", log_numbers + 90, 9);
     print_verdict("S without 4208, verdict alone", talazumir_verdict(shorter, sizeof shorter, log_numbers));
     uint8_t h[20];
     memcpy(h, S, sizeof h);

@@ -1,7 +1,7 @@
 //! The proved reader and writer of Nt commands (TS 29.154, Background-Data-Transfer request and answer) as safe Rust.
 //!
 //! The answers come from the archive that `rt staticlib boundary` proves and builds; this crate only hands over slices
-//! and arrays. `include/talazumir.h` has the table of verdict numbers, and the stack that each call takes: 48 KiB at
+//! and arrays. `include/talazumir.h` has the table of verdict numbers, and the stack that each call takes: 52 KiB at
 //! most. The archive is the one in the repository's `target/staticlib`, or in the folder that `TALAZUMIR_ARCHIVE_DIR`
 //! names at the build.
 //!
