@@ -34,6 +34,7 @@ use Rattle.log.specs.Families.{noneLogged, loggedFrom, Keeps, IsForest}
 use Rattle.log.proofs.Families.{logged-none, logged-same, kept-avps}
 use Rattle.walk.specs.declared.Walk.{Walk}
 use Rattle.walk.specs.declared.Walk.the-variants.{Whole, Stopped}
+use Rattle.walk.specs.Answer.{countOf}
 use Rattle.walk.specs.Promise.{answerOf, commandWalk, numberBy, CommandWalked}
 use Rattle.walk.proofs.Same.{walk-same}
 use Rattle.rows.specs.ByLog.{rowsBy}
@@ -42,7 +43,7 @@ use Rattle.rows.proofs.Firsts.{first-positions}
 use Rattle.exchange.specs.Firsts.{findIn}
 use Rattle.reader.specs.declared.Judgement.{Judgement}
 use Rattle.reader.proofs.Finds.{exchange-same, find-same}
-use Rattle.reader.specs.Promise.{firstsIn, listsIn, walkedIn, outcomeIn, metBy, logAfterBy, IsJudgedBy, logAfter, IsJudged}
+use Rattle.reader.specs.Promise.{firstsIn, listsIn, walkedIn, outcomeIn, metBy, countBy, logAfterBy, IsJudgedBy, logAfter, IsJudged}
 
 -- the outcome of a walk, by the answer that it gave
 walked-whole : (s log : List ℕ) (w : Walked) (c : ℕ) → Whole c ≡ answerOf 0 w → walkedIn s log w ≡ listsIn s log c
@@ -52,6 +53,18 @@ walked-whole s log (stopped xs v) c e = let z : _≡_ {A = ℕ} 0 1 = cc in absu
 walked-stopped : (s log : List ℕ) (w : Walked) (c : ℕ) (v : Verdict) → Stopped c v ≡ answerOf 0 w → walkedIn s log w ≡ Refused v
 walked-stopped s log (whole xs) c v e = let z : _≡_ {A = ℕ} 0 1 = cc in absurd (omega arith)
 walked-stopped s log (stopped xs u) c v e = cc
+
+pub verdict-told : (s : List ℕ) (o : Outcome) → o ≡ commandOutcome s → verdictOf o ≡ commandVerdict s
+unfolding commandVerdict
+verdict-told s o e = ap verdictOf e
+
+count-whole : (w : Walked) (c : ℕ) → Whole c ≡ answerOf 0 w → countOf w ≡ c
+count-whole (whole xs) c e = let n : c ≡ 0 + length xs = cc in omega (arith, n)
+count-whole (stopped xs v) c e = let z : _≡_ {A = ℕ} 0 1 = cc in absurd (omega arith)
+
+count-stopped : (w : Walked) (c : ℕ) (v : Verdict) → Stopped c v ≡ answerOf 0 w → countOf w ≡ 0
+count-stopped (whole xs) c v e = let z : _≡_ {A = ℕ} 0 1 = cc in absurd (omega arith)
+count-stopped (stopped xs u) c v e = refl
 
 never-whole : {C : Type 0} (c : ℕ) (v : Verdict) (xs : List Avp) → Stopped c v ≡ answerOf 0 (whole xs) → C
 never-whole c v xs e = let z : _≡_ {A = ℕ} 0 1 = cc in absurd (omega arith)
@@ -76,6 +89,11 @@ module _ (table : List ℕ) (is : IsTable table) where
   unfolding walkOf
   met-same s Pass = ap avpsOf (walks-same s)
   met-same s (Refused v) = refl
+
+  count-same : (s : List ℕ) (o : Outcome) → countBy (dictionaryBy table) s o ≡ countBy dictionary s o
+  unfolding walkOf
+  count-same s Pass = ap countOf (walks-same s)
+  count-same s (Refused v) = refl
 
   log-same : (s before : List ℕ) → logAfterBy (dictionaryBy table) (numberBy table) s before ≡ logAfter s before
   unfolding logAfterBy logAfter
@@ -141,6 +159,7 @@ module _ (table s : List ℕ) where
       let all : outcomeIn dict s before ≡ Refused v = refused-first (headerOutcome s) (walkedIn s before (walkBy dict s)) r ∙ r in
       record {
         outcome = q ∙ sym all;
+        counted = rw r;
         left = rw (r, logged-none (numberBy table) 0);
         right = λ is. q ∙ sym all ∙ outcome-same table is s before (λ xs pass _. never (sym r ∙ pass));
         long = λ p. never (sym q ∙ p);
@@ -178,6 +197,7 @@ module _ (table s : List ℕ) where
           let all : outcomeIn dict s after ≡ Refused v = outcome-of ∙ walked-stopped s after (walkBy dict s) c v stop in
           record {
             outcome = sym all;
+            counted = rw pass (sym (count-stopped (walkBy dict s) c v stop));
             left = left-by;
             right = λ is. sym all ∙ outcome-same table is s after (λ xs _ u. never-whole c v xs (stop ∙ ap (answerOf 0) u));
             long = λ p. never p;
@@ -198,6 +218,7 @@ module _ (table s : List ℕ) where
           let all : o ≡ outcomeIn dict s after = q ∙ sym (outcome-of ∙ walked-whole s after (walkBy dict s) c (sym e ∙ answered)) in
           record {
             outcome = all;
+            counted = rw pass (sym (count-whole (walkBy dict s) c (sym e ∙ answered)));
             left = left-by;
             right = λ is. all ∙ outcome-same table is s after
                 (λ ys _ u.
@@ -214,8 +235,11 @@ pub header-refused : (s before : List ℕ) (o : Outcome) {v : Verdict} → o ≡
 unfolding commandOutcome logAfter logAfterBy
 header-refused s before o {v} e q =
     let r : headerOutcome s ≡ Refused v = sym e ∙ q in
+    let is = q ∙ sym (refused-first (headerOutcome s) (walkedOutcome s (walkOf s)) r ∙ r) in
     record {
-      outcome = q ∙ sym (refused-first (headerOutcome s) (walkedOutcome s (walkOf s)) r ∙ r);
+      outcome = is;
+      told = verdict-told s o is;
+      counted = rw r;
       left = rw (r, logged-none (entryOf dictionary) 0);
       long = λ p. never (sym q ∙ p);
       few = λ p. never (sym q ∙ p);
@@ -227,6 +251,8 @@ pub judged-right : (table : List ℕ) → IsTable table → (s before : List ℕ
     → IsJudgedBy table s before r after → IsJudged s before r after
 judged-right table is s before j = record {
   outcome = j .right is;
+  told = verdict-told s _ (j .right is);
+  counted = j .counted ∙ count-same table is s (headerOutcome s);
   left = j .left ∙ log-same table is s before;
   long = j .long;
   few = j .few;
@@ -236,10 +262,6 @@ judged-right table is s before j = record {
 -- ---- verdict and record
 
 module _ (s : List ℕ) where
-  pub verdict-told : (o : Outcome) → o ≡ commandOutcome s → verdictOf o ≡ commandVerdict s
-  unfolding commandVerdict
-  verdict-told o e = ap verdictOf e
-
   pub verdict-accepted : commandOutcome s ≡ Pass → verdict 0 0 0 0 ≡ commandVerdict s
   unfolding commandVerdict
   verdict-accepted e = rw e

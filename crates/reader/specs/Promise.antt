@@ -17,9 +17,10 @@ use Rattle.dictionary.specs.Entries.{entryOf}
 use Rattle.dictionary.specs.Table.{IsTable, dictionaryBy}
 use Rattle.log.specs.Log.{putAll, loggedOf, avpsIn}
 use Rattle.log.specs.Families.{loggedFrom}
+use Rattle.walk.specs.Answer.{countOf}
 use Rattle.walk.specs.Promise.{numberBy}
 use Rattle.rows.specs.ByLog.{rowsBy}
-use Rattle.rows.specs.Firsts.{noneYet, firstsFrom}
+use Rattle.rows.specs.Firsts.{noFirsts, firstsFrom}
 use Rattle.exchange.specs.Firsts.{findIn}
 use Rattle.reader.specs.declared.Judgement.{Judgement}
 
@@ -27,13 +28,14 @@ use Rattle.reader.specs.declared.Judgement.{Judgement}
 
 -- the first positions in the command's own list, by what a log holds of so many AVPs
 abbrev pub firstsIn : List ℕ → ℕ → List ℕ
-firstsIn log count = firstsFrom count (loggedOf log) 0 count noneYet
+firstsIn log count = firstsFrom count (loggedOf log) 0 count noFirsts
 
 -- rows and exchange rules by what a log holds of so many AVPs; a count above 256 is read as 256
 unfoldable pub listsIn : List ℕ → List ℕ → ℕ → Outcome
 listsIn s log count =
     orElse (rowsBy (loggedOf log) (commandGrammar (commandFlags s)) (length s) (min count mostAvps))
-    (exchangeBy (findIn (firstsIn log (min count mostAvps)) (min count mostAvps)) (isRequest (commandFlags s)) (avpsIn log count) s (length s))
+    (exchangeBy (findIn (firstsIn log (min count mostAvps)) (min count mostAvps)) (isRequest (commandFlags s))
+    (avpsIn log count) s (length s))
 
 -- a fault of the walk is the answer; else its lists by the log that it left
 abbrev pub walkedIn : List ℕ → List ℕ → Walked → Outcome
@@ -54,9 +56,16 @@ metBy dict s (Refused v) = []
 unfoldable pub logAfterBy : List Entry → (ℕ → ℕ → ℕ) → List ℕ → List ℕ → List ℕ
 logAfterBy dict entry s before = putAll before 0 (loggedFrom entry 0 (metBy dict s (headerOutcome s)))
 
+-- how many AVPs stand in the log: those of a whole walk, however its lists are judged; none after a fault of header or
+-- walk
+abbrev pub countBy : List Entry → List ℕ → Outcome → ℕ
+countBy dict s Pass = countOf (walkBy dict s)
+countBy dict s (Refused v) = 0
+
 -- what judging a command by a table gives; by the right one document 01's outcome
 pub record IsJudgedBy (table s before : List ℕ) (r : Judgement) (after : List ℕ) : Type 0 where
   pub outcome : r .outcome ≡ outcomeIn (dictionaryBy table) s after
+  pub counted : r .count ≡ countBy (dictionaryBy table) s (headerOutcome s)
   pub left : after ≡ logAfterBy (dictionaryBy table) (numberBy table) s before
   pub right : IsTable table → r .outcome ≡ commandOutcome s
   pub long : r .outcome ≡ Pass → headerSize ≤ length s
@@ -71,6 +80,8 @@ logAfter s before = logAfterBy dictionary (entryOf dictionary) s before
 -- what judging a command gives, and for an accepted one its AVPs
 pub record IsJudged (s before : List ℕ) (r : Judgement) (after : List ℕ) : Type 0 where
   pub outcome : r .outcome ≡ commandOutcome s
+  pub told : verdictOf (r .outcome) ≡ commandVerdict s
+  pub counted : r .count ≡ countBy dictionary s (headerOutcome s)
   pub left : after ≡ logAfter s before
   pub long : r .outcome ≡ Pass → headerSize ≤ length s
   pub few : r .outcome ≡ Pass → r .count ≤ mostAvps
@@ -87,7 +98,7 @@ pub record Judged (s before : List ℕ) (r : Verdict) (after : List ℕ) : Type 
   pub answer : r ≡ commandVerdict s
   pub left : after ≡ logAfter s before
 
--- what `verdict_by` gives; by the right table document 01's verdict
+-- what `verdict_by` gives; by the right table document 01's verdict, by another what the log that is left says
 pub record JudgedBy (table s before : List ℕ) (r : Verdict) (after : List ℕ) : Type 0 where
   pub answer : r ≡ verdictOf (outcomeIn (dictionaryBy table) s after)
   pub left : after ≡ logAfterBy (dictionaryBy table) (numberBy table) s before

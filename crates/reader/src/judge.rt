@@ -4,7 +4,7 @@ ghost use Prim.Native.Nat.{_≤_};
 ghost use lib.ListN.{length};
 ghost use Rattle.rules.specs.Header.{headerSize, longestCommand, headerOutcome};
 ghost use Rattle.rules.specs.Command.{commandGrammar};
-ghost use Rattle.rows.specs.Firsts.{noneYet};
+ghost use Rattle.rows.specs.Firsts.{noFirsts};
 ghost use Rattle.reader.specs.Promise.{listsIn, IsJudgedBy, IsJudged};
 use crate::Judgement;
 use crate::header;
@@ -28,8 +28,8 @@ fn command_grammar(flags: u8) -> Grammar
 }
 
 // No entry was met yet in the command's own list: the number of places of a record is no position.
-fn none_yet() -> [u16; kinds::ENTRIES]
-    ensures { λ r. ⌜ r ≡ noneYet ⌝ }
+fn no_firsts() -> [u16; kinds::ENTRIES]
+    ensures { λ r. ⌜ r ≡ noFirsts ⌝ }
 {
     [limits::MOST_AVPS as u16; kinds::ENTRIES]
 }
@@ -41,7 +41,7 @@ fn lists_outcome(s: &[u8], log: &[u32; limits::LOG_NUMBERS], count: usize) -> Ou
 {
     let flags = s[4];
     let end = s.len() as u32;
-    let mut firsts = none_yet();
+    let mut firsts = no_firsts();
     let rows = rows::judge(log, count, command_grammar(flags), end, &mut firsts);
     let Outcome::Pass = rows else {
         return rows;

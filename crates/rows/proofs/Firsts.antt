@@ -23,7 +23,7 @@ use Rattle.dictionary.specs.Entries.{numberWhere, entryOf}
 use Rattle.log.specs.Log.{Logged}
 use Rattle.log.specs.Families.{loggedFrom, Forest, none, family, flat, Placed, IsForest}
 use Rattle.log.proofs.Forests.{Stands, stands-at, stands-family}
-use Rattle.rows.specs.Firsts.{noneYet, noted, firstsFrom}
+use Rattle.rows.specs.Firsts.{noFirsts, noted, firstsFrom}
 use Rattle.rows.proofs.Noted.{length-noted, firsts-none, firsts-on}
 
 -- ---- two names with the same entry
@@ -211,17 +211,17 @@ pub first-positions : (xs : List Avp) → IsForest 1 xs → length xs ≤ 256 �
     → ((i : ℕ) → i < length (loggedFrom (entryOf dictionary) 0 xs)
     → at i ≡ getD (loggedFrom (entryOf dictionary) 0 xs) i other)
     → (vendor code noPlace : ℕ) → entryOf dictionary vendor code < length dictionary
-    → getD (firstsFrom (length xs) at 0 (length xs) noneYet) (entryOf dictionary vendor code) noPlace
+    → getD (firstsFrom (length xs) at 0 (length xs) noFirsts) (entryOf dictionary vendor code) noPlace
     ≡ positionOf (search xs vendor code)
 first-positions xs f few at other h vendor code noPlace known =
     let stands = stands-at (entryOf dictionary) at xs 0 other (λ i l. rw (zero-add i) (h i l)) in
     let e : xs ≡ flat (f .forest) ++ [] = f .is ∙ sym (append-nil (flat (f .forest))) in
     let n : length (flat (f .forest)) ≡ length xs = ap (λ (ys : List Avp). length ys) (sym (f .is)) in
-    let yet : getD noneYet (entryOf dictionary vendor code) noPlace ≡ mostAvps =
+    let yet : getD noFirsts (entryOf dictionary vendor code) noPlace ≡ mostAvps =
     getD-replicate (length dictionary) (entryOf dictionary vendor code) mostAvps noPlace known in
     let by =
     firsts-by (entryOf dictionary) vendor code (known-only dictionary vendor code known) at noPlace
-    (f .forest) 0 (length xs) (length xs) noneYet (f .placed) (rw e at stands) (omega arith) (omega arith) few
+    (f .forest) 0 (length xs) (length xs) noFirsts (f .placed) (rw e at stands) (omega arith) (omega arith) few
     (rw (length-replicate (length dictionary) mostAvps) known) known (omega (arith, yet)) in
     let most = first-within vendor code xs 0 0 1 (omega arith) .1 in
     (rw (yet, ← e) at by) ∙ (omega (arith, most))

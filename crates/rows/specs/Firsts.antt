@@ -16,8 +16,8 @@ use Rattle.log.specs.Log.{Logged}
 use Rattle.rows.specs.ByLog.{listBy, rowsBy}
 
 -- no entry was met: the number of places of a record, which is no position, for each
-abbrev pub noneYet : List ℕ
-noneYet = replicate (length dictionary) mostAvps
+abbrev pub noFirsts : List ℕ
+noFirsts = replicate (length dictionary) mostAvps
 
 -- a member at a position; a number that is no entry's has no place
 unfoldable pub noted : List ℕ → ℕ → ℕ → List ℕ
@@ -35,7 +35,7 @@ pub record ListJudged (at : ℕ → Logged) (g : Grammar) (end from to : ℕ) (f
   pub is : r ≡ listBy at g end from to
   pub kept : r ≡ Pass → after ≡ firstsFrom (to - from) at from to firsts
 
--- what the row checks of a command give
+-- what the row checks of a command give; after a refusal what `firsts` holds is free
 pub record RowsJudged (at : ℕ → Logged) (g : Grammar) (end count : ℕ) (firsts : List ℕ) (r : Outcome) (after : List ℕ) : Type 0 where
   pub is : r ≡ rowsBy at g end count
   pub told : verdictOf r ≡ verdictOf (rowsBy at g end count)

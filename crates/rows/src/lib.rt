@@ -162,7 +162,8 @@ fn groups_outcome(
 }
 
 // The row checks of a command whose AVPs stand in a log with this count, above 256 read as 256, and whose own list ends
-// at `end`. In `firsts` the first position of each entry in that list is kept.
+// at `end`. Where they pass, `firsts` has the first position of each entry in that list; after a refusal what it holds is
+// free.
 pub fn judge(
     log: &[u32; limits::LOG_NUMBERS],
     count: usize,

@@ -75,16 +75,16 @@ abbrev pub numberBy : List ℕ → ℕ → ℕ → ℕ
 numberBy table vendor code = min (entryBy table vendor code) noNumber
 
 -- what the checks of an AVP give, with the number of its entry
-abbrev pub metWith : ℕ → Checked → Met
-metWith number (Fault v) = Faulty v
-metWith number (Plain a) = Basic a number
-metWith number (Group a) = Grouped a number
+abbrev pub withNumber : ℕ → Checked → Met
+withNumber number (Fault v) = Faulty v
+withNumber number (Plain a) = Basic a number
+withNumber number (Group a) = Grouped a number
 
 -- the same, where `entry` gives the number of a name's entry
-abbrev pub metBy : (ℕ → ℕ → ℕ) → Checked → Met
-metBy entry (Fault v) = Faulty v
-metBy entry (Plain a) = Basic a (entry (a .vendor) (a .code))
-metBy entry (Group a) = Grouped a (entry (a .vendor) (a .code))
+abbrev pub withEntry : (ℕ → ℕ → ℕ) → Checked → Met
+withEntry entry (Fault v) = Faulty v
+withEntry entry (Plain a) = Basic a (entry (a .vendor) (a .code))
+withEntry entry (Group a) = Grouped a (entry (a .vendor) (a .code))
 
 -- what a walk hands back
 abbrev pub answerOf : ℕ → Walked → Walk

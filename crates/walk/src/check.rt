@@ -13,7 +13,7 @@ ghost use Rattle.rules.specs.Walk.{wrongFlags, unsupported, wrongWidth, wrongVa
 ghost use Rattle.rules.specs.Walk.{checkedAvp, checked, standing};
 ghost use Rattle.dictionary.specs.Entries.{definitionAt};
 ghost use Rattle.dictionary.specs.Table.{dictionaryBy};
-ghost use Rattle.walk.specs.Promise.{InList, checkedWith, numberBy, metWith, metBy};
+ghost use Rattle.walk.specs.Promise.{InList, checkedWith, numberBy, withNumber, withEntry};
 use crate::frame;
 use crate::frame::Frame;
 use avp::is_named;
@@ -144,7 +144,7 @@ fn content(s: &[u8], at: usize, a: Avp, entry: u8) -> Outcome
 // Checks 3 to 7 of the AVP at a place, with the entry of its name, and whether its data is a list.
 fn judged(s: &[u8], at: usize, a: Avp, entry: u8) -> Met
     requires { ⌜ (at + headerOf false ≤ length (now s)) × (at ≤ longestCommand) ⌝ }
-    ensures { λ r. ⌜ r ≡ metWith entry (checkedWith (now (s .entry)) at a (definitionAt dictionary entry)) ⌝ }
+    ensures { λ r. ⌜ r ≡ withNumber entry (checkedWith (now (s .entry)) at a (definitionAt dictionary entry)) ⌝ }
 {
     let outcome = content(s, at, a, entry);
     if let Outcome::Refused(v) = outcome {
@@ -159,7 +159,7 @@ fn judged(s: &[u8], at: usize, a: Avp, entry: u8) -> Met
 // The same, by a table of plain codes, which leads to the entry.
 fn looked_up(s: &[u8], table: &[u8; plain::PLAIN_CODES], at: usize, a: Avp) -> Met
     requires { ⌜ (at + headerOf false ≤ length (now s)) × (at ≤ longestCommand) ⌝ }
-    ensures { λ r. ⌜ r ≡ metBy (numberBy (now (table .entry))) (checkedAvp (dictionaryBy (now (table .entry))) (now (s .entry)) at a) ⌝ }
+    ensures { λ r. ⌜ r ≡ withEntry (numberBy (now (table .entry))) (checkedAvp (dictionaryBy (now (table .entry))) (now (s .entry)) at a) ⌝ }
 {
     let entry = dictionary::entry_by(table, a.vendor, a.code);
     judged(s, at, a, entry)
@@ -175,7 +175,7 @@ pub(crate) fn check(
     count: usize,
 ) -> Met
     requires { ⌜ InList (now s) at end ⌝ }
-    ensures { λ r. ⌜ r ≡ metBy (numberBy (now (table .entry))) (checked (dictionaryBy (now (table .entry))) (now (s .entry)) (standing at end depth count)) ⌝ }
+    ensures { λ r. ⌜ r ≡ withEntry (numberBy (now (table .entry))) (checked (dictionaryBy (now (table .entry))) (now (s .entry)) (standing at end depth count)) ⌝ }
 {
     if limits::MOST_AVPS <= count {
         return Met::Faulty(frame::fault(7002, at, 0, 0));

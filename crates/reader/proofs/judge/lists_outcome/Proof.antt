@@ -24,8 +24,8 @@ shared-slice-read-flags c = search needs
 cast-end : tie.Need-cast-end
 cast-end c = search needs
 
-none-yet-requires : tie.Need-none-yet-requires
-none-yet-requires c κs = search needs
+no-firsts-requires : tie.Need-no-firsts-requires
+no-firsts-requires c κs = search needs
 
 command-grammar-requires : tie.Need-command-grammar-requires
 command-grammar-requires c κs = search needs
@@ -68,7 +68,7 @@ returns-2 c =
     let s = a .s .now in
     let n = min (a .count) mostAvps in
     let xs = avpsIn (a .log .now) (a .count) in
-    let kept = j .judge .ensures .kept (f .before .enum-told .given .1) ∙ ap (firstsFrom n (loggedOf (a .log .now)) 0 n) (y .none-yet .ensures) in
+    let kept = j .judge .ensures .kept (f .before .enum-told .given .1) ∙ ap (firstsFrom n (loggedOf (a .log .now)) 0 n) (y .no-firsts .ensures) in
     c .judge2 .ensures .is
     ∙ ap (λ (firsts : List ℕ). exchangeBy (findIn firsts n) (f .has-flag .result) xs s (length s)) kept
     ∙ ap (λ (request : Bool). exchangeBy (findIn (firstsIn (a .log .now) n) n) request xs s (length s)) (f .has-flag .ensures)
@@ -80,7 +80,7 @@ lists-outcome-spec =
     (tie.spec
     shared-slice-read-flags
     cast-end
-    none-yet-requires
+    no-firsts-requires
     command-grammar-requires
     judge-requires
     enum-told
