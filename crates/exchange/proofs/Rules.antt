@@ -1,6 +1,6 @@
--- Laws of the exchange rules: each rule by what its searches found, and a rule at one position after another.
+-- Laws of the exchange rules: each rule by what its searches found.
 use mathlib.Core.Path.{_≡_, refl, sym, ap, _∙_}
-use mathlib.Core.List.{List, [], _∷_}
+use mathlib.Core.List.{List}
 use Prim.Native.Nat.{ℕ, _+_, _≤_, _<_}
 use lib.ListN.{drop}
 use Rattle.rules.specs.declared.Avp.{Avp}
@@ -11,15 +11,11 @@ use Rattle.rules.specs.declared.Found.{Found}
 use Rattle.rules.specs.declared.Found.the-variants.{At, Nothing}
 use Rattle.rules.specs.Octets.{numberAt}
 use Rattle.rules.specs.Verdict.{refused, orElse}
-use Rattle.rules.specs.Avp.{endOf}
 use Rattle.rules.specs.RowChecks.{memberFault}
-use Rattle.rules.specs.Search.{avpIn, firstFrom, member}
+use Rattle.rules.specs.Search.{avpIn, firstFrom}
 use Rattle.rules.specs.Exchange.{present, require, direction, volume, totalAlone, firstRequest, byRequestType, requestOutcome}
-use Rattle.rules.specs.Exchange.{resultBy, resultOutcome, policiesOutcome, windowBy, windowOutcome, eachPolicy, eachWindow}
+use Rattle.rules.specs.Exchange.{resultBy, resultOutcome, policiesOutcome, timesBy, windowBy, windowIn}
 use Rattle.rules.proofs.Outcomes.{or-pass, or-assoc}
-use Rattle.log.specs.Log.{avpOf, avpsIn}
-use Rattle.log.proofs.Log.{avps-cons, avps-end}
-use Rattle.rules.specs.Exchange.{policyAt, timesBy, windowAt}
 use Rattle.exchange.specs.Positions.{volumes}
 
 -- ---- an AVP that must be there
@@ -118,49 +114,16 @@ windowBy-no-start : (xs : List Avp) (s : List ℕ) (end : ℕ) (f : Found) → r
 windowBy-no-start xs s end (At j) = refl
 windowBy-no-start xs s end Nothing = refl
 
-module _ (xs : List Avp) (s : List ℕ) (p depth : ℕ) where
-  pub window-no-start : member xs p depth 10415 4206 ≡ Nothing
-      → refused 5005 (endOf (avpIn xs p)) 10415 4206 ≡ windowOutcome xs s p depth
-  unfolding windowOutcome
-  window-no-start e = windowBy-no-start xs s (endOf (avpIn xs p)) (member xs p depth 10415 4205) ∙ rw e
+module _ (find : ℕ → ℕ → Found) (xs : List Avp) (s : List ℕ) (end : ℕ) where
+  pub window-no-start : find 10415 4206 ≡ Nothing → refused 5005 end 10415 4206 ≡ windowIn find xs s end
+  unfolding windowIn
+  window-no-start e = windowBy-no-start xs s end (find 10415 4205) ∙ rw e
 
-  module _ (i : ℕ) (e : member xs p depth 10415 4206 ≡ At i) where
-    pub window-no-end : member xs p depth 10415 4205 ≡ Nothing
-        → refused 5005 (endOf (avpIn xs p)) 10415 4205 ≡ windowOutcome xs s p depth
-    unfolding windowOutcome
+  module _ (i : ℕ) (e : find 10415 4206 ≡ At i) where
+    pub window-no-end : find 10415 4205 ≡ Nothing → refused 5005 end 10415 4205 ≡ windowIn find xs s end
+    unfolding windowIn
     window-no-end d = rw (e, d)
 
-    pub window-both : (j : ℕ) → member xs p depth 10415 4205 ≡ At j → timesBy xs s i j ≡ windowOutcome xs s p depth
-    unfolding windowOutcome
+    pub window-both : (j : ℕ) → find 10415 4205 ≡ At j → timesBy xs s i j ≡ windowIn find xs s end
+    unfolding windowIn
     window-both j d = rw (e, d)
-
--- ---- one position after another
-
-pub record Each (each : ℕ → List Avp → Outcome) (at : ℕ → Avp → Outcome) : Type 0 where
-  pub end : (i : ℕ) → each i [] ≡ Pass
-  pub next : (i : ℕ) (a : Avp) (rest : List Avp) → each i (a ∷ rest) ≡ orElse (at i a) (each (i + 1) rest)
-
-pub policies-each : (xs : List Avp) → Each (eachPolicy xs) (policyAt xs)
-unfolding eachPolicy
-policies-each xs = record { end = λ i. refl; next = λ i a rest. refl }
-
-pub windows-each : (xs : List Avp) (s : List ℕ) → Each (eachWindow xs s) (windowAt xs s)
-unfolding eachWindow
-windows-each xs s = record { end = λ i. refl; next = λ i a rest. refl }
-
--- a rule over all positions that has come to position i
-module _ {each : ℕ → List Avp → Outcome} {at : ℕ → Avp → Outcome} (e : Each each at) (log : List ℕ) (count i : ℕ)
-    (room : count ≤ 256) (left : each i (drop i (avpsIn log count)) ≡ each 0 (avpsIn log count)) where
-  pub passed-all : count ≤ i → Pass ≡ each 0 (avpsIn log count)
-  passed-all h = sym (rw (avps-end log count i room h) (e .end i)) ∙ left
-
-  module _ (h : i < count) (o : Outcome) (p : o ≡ at i (avpOf log i)) where
-    next : orElse o (each (i + 1) (drop (i + 1) (avpsIn log count))) ≡ each 0 (avpsIn log count)
-    next =
-        sym (rw (avps-cons log count i room h, p) (e .next i (avpOf log i) (drop (i + 1) (avpsIn log count)))) ∙ left
-
-    pub refused-at : (v : Verdict) → o ≡ Refused v → o ≡ each 0 (avpsIn log count)
-    refused-at v r = r ∙ (rw r at next)
-
-    pub passed-at : o ≡ Pass → each (i + 1) (drop (i + 1) (avpsIn log count)) ≡ each 0 (avpsIn log count)
-    passed-at r = rw r at next

@@ -1,17 +1,11 @@
 // 01, Exchange rules of an answer: its result, and its transfer policies.
 ghost use mathlib.Core.Path.{_≡_};
 ghost use Prim.Native.Nat.{_≤_};
-ghost use Rattle.rules.specs.Exchange.{resultOutcome, policiesOutcome, policyOutcome, eachPolicy, answerOutcome};
+ghost use Rattle.rules.specs.Exchange.{resultOutcome, policiesOutcome, policyIn, answerOutcome};
 ghost use Rattle.rules.specs.Walk.{mostAvps};
-ghost use Rattle.log.specs.Log.{avpOf, avpsIn};
-ghost use Rattle.rules.specs.Exchange.{heldBy, policyAt};
-ghost use Rattle.exchange.specs.Positions.{Position};
+ghost use Rattle.log.specs.Log.{avpsIn};
 ghost use Rattle.exchange.specs.Firsts.{findIn};
-use crate::search::end_at;
 use crate::search::first;
-use crate::search::is_at;
-use crate::search::member;
-use crate::search::present;
 use crate::search::require;
 use crate::search::search;
 use avp::member_fault;
@@ -77,68 +71,35 @@ fn policies_outcome(
     require(firsts, count, end, PcrfAddress::ENTRY)
 }
 
-// An AVP that the policy at a position must hold.
-fn held(log: &[u32; limits::LOG_NUMBERS], i: usize, count: usize, vendor: u32, code: u32) -> Outcome
-    requires { ⌜ Position i count ⌝ }
-    ensures { λ r. ⌜ r ≡ heldBy (avpsIn (now (log .entry)) count) i vendor code ⌝ }
+// A transfer policy by the first positions of its members: it ends at `end`, and holds a Time-Window and a Rating-Group.
+pub fn policy_outcome(firsts: &[u16; kinds::ENTRIES], count: usize, end: u32) -> Outcome
+    ensures { λ r. ⌜ r ≡ policyIn (findIn (now (firsts .entry)) count) end ⌝ }
 {
-    let found = member(log, i, count, 2, vendor, code);
-    present(found, end_at(log, i, count), vendor, code)
-}
-
-fn policy_outcome(log: &[u32; limits::LOG_NUMBERS], i: usize, count: usize) -> Outcome
-    requires { ⌜ Position i count ⌝ }
-    ensures { λ r. ⌜ r ≡ policyOutcome (avpsIn (now (log .entry)) count) i ⌝ }
-{
-    let window = held(log, i, count, TimeWindow::VENDOR, TimeWindow::CODE);
+    let window = require(firsts, count, end, TimeWindow::ENTRY);
     let Outcome::Pass = window else {
         return window;
     };
-    held(log, i, count, RatingGroup::VENDOR, RatingGroup::CODE)
+    require(firsts, count, end, RatingGroup::ENTRY)
 }
 
-// What is said at a position: of a policy of the command's own list its outcome.
-fn policy_at(log: &[u32; limits::LOG_NUMBERS], i: usize, count: usize) -> Outcome
-    requires { ⌜ Position i count ⌝ }
-    ensures { λ r. ⌜ r ≡ policyAt (avpsIn (now (log .entry)) count) i (avpOf (now (log .entry)) i) ⌝ }
-{
-    if is_at(log, i, 1, TransferPolicy::VENDOR, TransferPolicy::CODE) {
-        return policy_outcome(log, i, count);
-    }
-    Outcome::Pass
-}
-
-fn each_policy(log: &[u32; limits::LOG_NUMBERS], count: usize) -> Outcome
-    requires { ⌜ count ≤ mostAvps ⌝ }
-    ensures { λ r. ⌜ r ≡ eachPolicy (avpsIn (now (log .entry)) count) 0 (avpsIn (now (log .entry)) count) ⌝ }
-{
-    let mut i = 0;
-    while i < count {
-        let outcome = policy_at(log, i, count);
-        let Outcome::Pass = outcome else {
-            return outcome;
-        };
-        i += 1;
-    }
-    Outcome::Pass
-}
-
+// The rules of an answer; `policies` is what is said of each policy.
 pub(crate) fn answer_outcome(
     log: &[u32; limits::LOG_NUMBERS],
     firsts: &[u16; kinds::ENTRIES],
     count: usize,
     end: u32,
+    policies: Outcome,
 ) -> Outcome
     requires { ⌜ count ≤ mostAvps ⌝ }
-    ensures { λ r. ⌜ r ≡ answerOutcome (findIn (now (firsts .entry)) count) (avpsIn (now (log .entry)) count) end ⌝ }
+    ensures { λ r. ⌜ r ≡ answerOutcome (findIn (now (firsts .entry)) count) (avpsIn (now (log .entry)) count) end policies ⌝ }
 {
     let result = result_outcome(log, firsts, count, end);
     let Outcome::Pass = result else {
         return result;
     };
-    let policies = policies_outcome(log, firsts, count, end);
-    let Outcome::Pass = policies else {
-        return policies;
+    let asked = policies_outcome(log, firsts, count, end);
+    let Outcome::Pass = asked else {
+        return asked;
     };
-    each_policy(log, count)
+    policies
 }

@@ -1,23 +1,21 @@
-// 01, Exchange rules: the rules of a request, those of an answer, and the time windows, over the log of a command's
-// walk. A search for an AVP is in `search`, the rules in the modules of their names.
+// 01, Exchange rules: those of a request, of an answer, of a transfer policy and of a time window, by the first position
+// of each entry in a list. A search for an AVP is in `search`, the rules in the modules of their names.
 ghost use mathlib.Core.Path.{_≡_};
 ghost use Prim.Native.Nat.{_≤_, min};
-ghost use Rattle.rules.specs.Verdict.{verdictOf, Answers};
-ghost use Rattle.rules.specs.Exchange.{exchangeBy};
+ghost use Rattle.rules.specs.Exchange.{byCommand, exchangeBy};
 ghost use Rattle.rules.specs.Walk.{mostAvps};
 ghost use Rattle.log.specs.Log.{avpsIn};
-ghost use Rattle.rules.specs.Exchange.{byCommand};
 ghost use Rattle.exchange.specs.Firsts.{findIn};
 use dictionary::kinds;
 use rules::Outcome;
 use rules::limits;
 
-mod answer;
+pub mod answer;
 mod request;
 mod search;
-mod window;
+pub mod window;
 
-// The rules of a request or of an answer.
+// The rules of a request or of an answer; `policies` is what is said of each policy.
 fn by_command(
     request: bool,
     s: &[u8],
@@ -25,32 +23,35 @@ fn by_command(
     firsts: &[u16; kinds::ENTRIES],
     count: usize,
     end: u32,
+    policies: Outcome,
 ) -> Outcome
     requires { ⌜ count ≤ mostAvps ⌝ }
-    ensures { λ r. ⌜ r ≡ byCommand (findIn (now (firsts .entry)) count) request (avpsIn (now (log .entry)) count) (now (s .entry)) end ⌝ }
+    ensures { λ r. ⌜ r ≡ byCommand (findIn (now (firsts .entry)) count) request (avpsIn (now (log .entry)) count) (now (s .entry)) end policies ⌝ }
 {
     if request {
         return request::request_outcome(s, log, firsts, count, end);
     }
-    answer::answer_outcome(log, firsts, count, end)
+    answer::answer_outcome(log, firsts, count, end, policies)
 }
 
-// What the exchange rules say of the command `s`, whose own list ends at `end` and whose walk is in the log. The row
-// checks have kept the first position of each entry in that list.
+// What the exchange rules say of the command `s`, whose walk is in the log and whose own list ends at `end`, by the first
+// position of each entry in that list; `policies` and `windows` are what is said of each policy and of each window.
 pub fn judge(
     request: bool,
     s: &[u8],
     log: &[u32; limits::LOG_NUMBERS],
+    firsts: &[u16; kinds::ENTRIES],
     count: usize,
     end: u32,
-    firsts: &[u16; kinds::ENTRIES],
+    policies: Outcome,
+    windows: Outcome,
 ) -> Outcome
-    ensures { λ r. ⌜ Answers verdictOf (exchangeBy (findIn (now (firsts .entry)) (min count mostAvps)) request (avpsIn (now (log .entry)) count) (now (s .entry)) end) r ⌝ }
+    ensures { λ r. ⌜ r ≡ exchangeBy (findIn (now (firsts .entry)) (min count mostAvps)) request (avpsIn (now (log .entry)) count) (now (s .entry)) end policies windows ⌝ }
 {
     let avps = log::used(count);
-    let outcome = by_command(request, s, log, firsts, avps, end);
+    let outcome = by_command(request, s, log, firsts, avps, end, policies);
     let Outcome::Pass = outcome else {
         return outcome;
     };
-    window::each_window(s, log, avps)
+    windows
 }

@@ -4,9 +4,7 @@ ghost use mathlib.Core.Path.{_≡_};
 ghost use Prim.Native.Nat.{_≤_};
 ghost use lib.ListN.{drop, getD};
 ghost use Rattle.rules.specs.Octets.{numberAt, IsNumber};
-ghost use Rattle.rules.specs.Avp.{endOf};
 ghost use Rattle.rules.specs.Search.{avpIn, firstFrom};
-ghost use Rattle.rules.specs.Search.{member as memberOf};
 ghost use Rattle.rules.specs.Exchange.{present as presentBy, require as requireIn};
 ghost use Rattle.rules.specs.Walk.{mostAvps};
 ghost use Rattle.log.specs.Log.{avpOf, avpsIn};
@@ -96,21 +94,6 @@ pub(crate) fn search(firsts: &[u16; kinds::ENTRIES], count: usize, entry: u8) ->
     Found::Nothing
 }
 
-// The first member with a vendor and code of the group at a position, whose members stand at this depth.
-pub(crate) fn member(
-    log: &[u32; limits::LOG_NUMBERS],
-    i: usize,
-    count: usize,
-    depth: usize,
-    vendor: u32,
-    code: u32,
-) -> Found
-    requires { ⌜ Position i count ⌝ }
-    ensures { λ r. ⌜ FoundBelow (memberOf (avpsIn (now (log .entry)) count) i depth vendor code) count r ⌝ }
-{
-    first(log, i + 1, count, depth, depth, vendor, code)
-}
-
 // What a search says of an AVP that a list must have; `end` is the list's end.
 pub(crate) fn present(found: Found, end: u32, vendor: u32, code: u32) -> Outcome
     ensures { λ r. ⌜ r ≡ presentBy end vendor code found ⌝ }
@@ -132,14 +115,6 @@ pub(crate) fn require(firsts: &[u16; kinds::ENTRIES], count: usize, end: u32, en
         dictionary::vendor_of(entry),
         dictionary::code_of(entry),
     )
-}
-
-// The end of the data of the AVP at a position.
-pub(crate) fn end_at(log: &[u32; limits::LOG_NUMBERS], i: usize, count: usize) -> u32
-    requires { ⌜ Position i count ⌝ }
-    ensures { λ r. ⌜ r ≡ endOf (avpIn (avpsIn (now (log .entry)) count) i) ⌝ }
-{
-    log::data_end(log, i)
 }
 
 // The number in the first four octets of the data of the AVP at a position.

@@ -1,18 +1,16 @@
-// 01, Exchange rules: each time window of the walk, at any depth.
+// 01, Exchange rules: a time window.
 ghost use mathlib.Core.Path.{_≡_};
-ghost use Prim.Native.Nat.{_≤_};
-ghost use Rattle.rules.specs.Exchange.{windowOutcome, eachWindow};
+ghost use Prim.Native.Nat.{min};
+ghost use Rattle.rules.specs.Exchange.{timesBy, windowIn};
 ghost use Rattle.rules.specs.Walk.{mostAvps};
-ghost use Rattle.log.specs.Log.{avpOf, avpsIn};
-ghost use Rattle.rules.specs.Exchange.{timesBy, windowAt};
+ghost use Rattle.log.specs.Log.{avpsIn};
 ghost use Rattle.exchange.specs.Positions.{Position};
-use crate::search::end_at;
-use crate::search::member;
+ghost use Rattle.exchange.specs.Firsts.{findIn};
 use crate::search::number_of;
-use crate::search::wide;
+use crate::search::search;
 use avp::member_fault;
 use avp::refusal;
-use dictionary::kinds::TimeWindow;
+use dictionary::kinds;
 use dictionary::kinds::TransferEndTime;
 use dictionary::kinds::TransferStartTime;
 use rules::Found;
@@ -41,72 +39,27 @@ fn times_by(
     member_fault(5004, log::get(log, end))
 }
 
-// The window at a position, whose members stand at this depth.
-fn window_outcome(
+// A time window by the first positions of its members: it ends at `end`, and its start is before its end.
+pub fn window_outcome(
     s: &[u8],
     log: &[u32; limits::LOG_NUMBERS],
-    i: usize,
+    firsts: &[u16; kinds::ENTRIES],
     count: usize,
-    depth: usize,
+    end: u32,
 ) -> Outcome
-    requires { ⌜ Position i count ⌝ }
-    ensures { λ r. ⌜ r ≡ windowOutcome (avpsIn (now (log .entry)) count) (now (s .entry)) i depth ⌝ }
+    ensures { λ r. ⌜ r ≡ windowIn (findIn (now (firsts .entry)) (min count mostAvps)) (avpsIn (now (log .entry)) count) (now (s .entry)) end ⌝ }
 {
-    let Found::At(start) = member(
-        log,
-        i,
-        count,
-        depth,
-        TransferStartTime::VENDOR,
-        TransferStartTime::CODE,
-    ) else {
+    let avps = log::used(count);
+    let Found::At(from) = search(firsts, avps, TransferStartTime::ENTRY) else {
         return refusal(
             5005,
-            end_at(log, i, count),
+            end,
             TransferStartTime::VENDOR,
             TransferStartTime::CODE,
         );
     };
-    let Found::At(end) = member(
-        log,
-        i,
-        count,
-        depth,
-        TransferEndTime::VENDOR,
-        TransferEndTime::CODE,
-    ) else {
-        return refusal(
-            5005,
-            end_at(log, i, count),
-            TransferEndTime::VENDOR,
-            TransferEndTime::CODE,
-        );
+    let Found::At(to) = search(firsts, avps, TransferEndTime::ENTRY) else {
+        return refusal(5005, end, TransferEndTime::VENDOR, TransferEndTime::CODE);
     };
-    times_by(s, log, start, end, count)
-}
-
-// What is said at a position: of a window its outcome.
-fn window_at(s: &[u8], log: &[u32; limits::LOG_NUMBERS], i: usize, count: usize) -> Outcome
-    requires { ⌜ Position i count ⌝ }
-    ensures { λ r. ⌜ r ≡ windowAt (avpsIn (now (log .entry)) count) (now (s .entry)) i (avpOf (now (log .entry)) i) ⌝ }
-{
-    if log::is_named(log, i, TimeWindow::VENDOR, TimeWindow::CODE) {
-        return window_outcome(s, log, i, count, wide(log::depth_at(log, i)) + 1);
-    }
-    Outcome::Pass
-}
-
-pub(crate) fn each_window(s: &[u8], log: &[u32; limits::LOG_NUMBERS], count: usize) -> Outcome
-    requires { ⌜ count ≤ mostAvps ⌝ }
-    ensures { λ r. ⌜ r ≡ eachWindow (avpsIn (now (log .entry)) count) (now (s .entry)) 0 (avpsIn (now (log .entry)) count) ⌝ }
-{
-    let mut i = 0;
-    while i < count {
-        let outcome = window_at(s, log, i, count);
-        let Outcome::Pass = outcome else {
-            return outcome;
-        };
-        i += 1;
-    }
-    Outcome::Pass
+    times_by(s, log, from, to, avps)
 }

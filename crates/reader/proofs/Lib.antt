@@ -1,5 +1,3 @@
--- The laws behind the reader's proofs: a record's places, the search of the exchange rules, and a command's checks in
--- order.
+-- The laws behind the reader's proofs: a record's places, and a command's checks in order.
 mod Places
-mod Finds
 pub mod Order

@@ -1,6 +1,5 @@
 -- A command's checks in order: its header, its walk, its lists; and what is read of it.
 use mathlib.Core.Path.{_≡_, refl, sym, ap, _∙_}
-use mathlib.Core.Bool.{Bool}
 use mathlib.Core.List.{List}
 use Prim.Native.Nat.{ℕ, _+_, _≤_, min}
 use native.Mathlib.Omega.{arith}
@@ -8,20 +7,15 @@ use borrow.Author.Tests.{le-ltb}
 use lib.ListN.{length}
 use Rattle.rules.specs.declared.Avp.{Avp}
 use Rattle.rules.specs.declared.Verdict.{Verdict}
-use Rattle.rules.specs.declared.Found.{Found}
-use Rattle.rules.specs.declared.Grammar.{Grammar}
 use Rattle.rules.specs.declared.Outcome.{Outcome}
 use Rattle.rules.specs.declared.Outcome.the-variants.{Pass, Refused}
 use Rattle.rules.specs.declared.Record.{Record}
 use Rattle.rules.specs.declared.Reading.{Reading}
 use Rattle.rules.specs.Verdict.{verdict, verdictOf, orElse}
-use Rattle.rules.specs.Header.{headerOutcome, commandFlags, isRequest}
-use Rattle.rules.specs.Search.{search as searched}
-use Rattle.rules.specs.Walk.{mostAvps, Walked, whole, stopped, avpsOf}
+use Rattle.rules.specs.Header.{headerOutcome, commandFlags}
+use Rattle.rules.specs.Walk.{Walked, whole, stopped, avpsOf}
 use Rattle.rules.specs.Dictionary.{Entry, dictionary}
-use Rattle.rules.specs.RowChecks.{rowsOutcome}
-use Rattle.rules.specs.Exchange.{exchangeBy, exchangeOutcome}
-use Rattle.rules.specs.Command.{commandGrammar, ownList, walkBy, walkOf, listsOutcome, walkedOutcome, commandOutcome, commandVerdict}
+use Rattle.rules.specs.Command.{ownList, walkBy, walkOf, listsOutcome, walkedOutcome, commandOutcome, commandVerdict}
 use Rattle.rules.specs.Record.{recordOf, emptyRecord, reading}
 use Rattle.rules.proofs.Outcomes.{refused-first, pass-first}
 use Rattle.rules.proofs.Header.{headed}
@@ -37,17 +31,17 @@ use Rattle.walk.specs.declared.Walk.the-variants.{Whole, Stopped}
 use Rattle.walk.specs.Answer.{countOf}
 use Rattle.walk.specs.Promise.{answerOf, commandWalk, numberBy, CommandWalked}
 use Rattle.walk.proofs.Same.{walk-same}
-use Rattle.rows.specs.ByLog.{rowsBy}
-use Rattle.rows.proofs.Walked.{walked-rows}
-use Rattle.rows.proofs.Firsts.{first-positions}
-use Rattle.exchange.specs.Firsts.{findIn}
+use Rattle.lists.specs.Exchanges.{listsBy, listsIn}
+use Rattle.lists.proofs.Exchanges.{walked-lists}
 use Rattle.reader.specs.declared.Judgement.{Judgement}
-use Rattle.reader.proofs.Finds.{exchange-same, find-same}
-use Rattle.reader.specs.Promise.{firstsIn, listsIn, walkedIn, outcomeIn, metBy, countBy, logAfterBy, IsJudgedBy, logAfter, IsJudged}
+use Rattle.reader.specs.Promise.{walkedIn, outcomeIn, metBy, countBy, logAfterBy, IsJudgedBy, logAfter, IsJudged}
 
 -- the outcome of a walk, by the answer that it gave
-walked-whole : (s log : List ℕ) (w : Walked) (c : ℕ) → Whole c ≡ answerOf 0 w → walkedIn s log w ≡ listsIn s log c
-walked-whole s log (whole xs) c e = let n : c ≡ 0 + length xs = cc in ap (listsIn s log) (omega (arith, n))
+walked-whole : (s log : List ℕ) (w : Walked) (c : ℕ) → Whole c ≡ answerOf 0 w
+    → walkedIn s log w ≡ listsIn (commandFlags s) s log (length s) c
+walked-whole s log (whole xs) c e =
+    let n : c ≡ 0 + length xs = cc in
+    ap (listsIn (commandFlags s) s log (length s)) (omega (arith, n))
 walked-whole s log (stopped xs v) c e = let z : _≡_ {A = ℕ} 0 1 = cc in absurd (omega arith)
 
 walked-stopped : (s log : List ℕ) (w : Walked) (c : ℕ) (v : Verdict) → Stopped c v ≡ answerOf 0 w → walkedIn s log w ≡ Refused v
@@ -103,29 +97,18 @@ module _ (table : List ℕ) (is : IsTable table) where
 
   -- by the log of a whole walk the lists are judged as document 01 judges them
   lists-same : (s log : List ℕ) (xs : List Avp) → length xs ≤ 256 → Keeps log (loggedFrom (numberBy table) 0 xs) → IsForest 1 xs
-      → listsIn s log (length xs) ≡ listsOutcome s xs
-  unfolding listsIn listsOutcome
+      → listsIn (commandFlags s) s log (length s) (length xs) ≡ listsOutcome s xs
+  unfolding listsOutcome
   lists-same s log xs few keeps forest =
       let e : min (length xs) 256 ≡ length xs = omega arith in
       let kept : Keeps log (loggedFrom (entryOf dictionary) 0 xs) =
       rw (logged-same (numberBy table) (entryOf dictionary) numbers-same 0 xs) at keeps in
-      let finds =
-      find-same xs few (firstsIn log (length xs))
-      (λ vendor code known. first-positions xs forest few (loggedOf log) noneLogged kept vendor code mostAvps known) in
-      let g : Grammar = commandGrammar (commandFlags s) in
-      let request : Bool = isRequest (commandFlags s) in
-      let find : ℕ → ℕ → Found = findIn (firstsIn log (length xs)) (length xs) in
-      let rows : rowsBy (loggedOf log) g (length s) (min (length xs) 256) ≡ rowsOutcome dictionary g (length s) xs =
-      rw e (walked-rows xs forest (loggedOf log) noneLogged kept g (length s)) in
-      let few-find : ℕ → ℕ → Found = findIn (firstsIn log (min (length xs) 256)) (min (length xs) 256) in
-      let exchange : exchangeBy few-find request (avpsIn log (length xs)) s (length s) ≡ exchangeOutcome request xs s (length s) =
-      rw e
-      (ap (λ (ys : List Avp). exchangeBy find request ys s (length s)) (kept-avps (entryOf dictionary) log xs few kept)
-      ∙ exchange-same find (searched xs) finds request xs s (length s)) in
-      ap (λ (o : Outcome). orElse o (exchangeBy few-find request (avpsIn log (length xs)) s (length s))) rows
-      ∙ ap (orElse (rowsOutcome dictionary g (length s) xs)) exchange
+      ap (listsBy (loggedOf log) (avpsIn log (length xs)) (commandFlags s) s (length s)) e
+      ∙ ap (λ (ys : List Avp). listsBy (loggedOf log) ys (commandFlags s) s (length s) (length xs))
+      (kept-avps (entryOf dictionary) log xs few kept)
+      ∙ walked-lists xs forest few (loggedOf log) noneLogged kept (commandFlags s) s (length s)
 
-  walked-same : (s log : List ℕ) (w : Walked) → ((xs : List Avp) → w ≡ whole xs → listsIn s log (length xs) ≡ listsOutcome s xs)
+  walked-same : (s log : List ℕ) (w : Walked) → ((xs : List Avp) → w ≡ whole xs → listsIn (commandFlags s) s log (length s) (length xs) ≡ listsOutcome s xs)
       → walkedIn s log w ≡ walkedOutcome s w
   walked-same s log (whole xs) h = h xs refl
   walked-same s log (stopped xs v) h = refl
@@ -206,7 +189,7 @@ module _ (table s : List ℕ) where
           }
 
       -- the walk is whole, and the lists are judged
-      pub judged-whole : (c : ℕ) → r ≡ Whole c → (o : Outcome) → o ≡ listsIn s after c
+      pub judged-whole : (c : ℕ) → r ≡ Whole c → (o : Outcome) → o ≡ listsIn (commandFlags s) s after (length s) c
           → IsJudgedBy table s before (record { outcome = o; count = c }) after
       judged-whole c e o q =
           let k = w .read c e in

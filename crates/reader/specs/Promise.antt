@@ -1,6 +1,6 @@
 -- The promises of the reader: the verdict of a slice of octets, and what a lent log holds afterwards.
 use mathlib.Core.Path.{_≡_}
-use Prim.Native.Nat.{ℕ, _≤_, min}
+use Prim.Native.Nat.{ℕ, _≤_}
 use mathlib.Core.List.{List, []}
 use lib.ListN.{length}
 use Rattle.rules.specs.declared.Avp.{Avp}
@@ -8,38 +8,24 @@ use Rattle.rules.specs.declared.Verdict.{Verdict}
 use Rattle.rules.specs.declared.Outcome.{Outcome}
 use Rattle.rules.specs.declared.Outcome.the-variants.{Pass, Refused}
 use Rattle.rules.specs.Verdict.{orElse, verdictOf}
-use Rattle.rules.specs.Header.{headerSize, headerOutcome, commandFlags, isRequest}
+use Rattle.rules.specs.Header.{headerSize, headerOutcome, commandFlags}
 use Rattle.rules.specs.Dictionary.{Entry, dictionary}
 use Rattle.rules.specs.Walk.{mostAvps, Walked, whole, stopped, avpsOf}
-use Rattle.rules.specs.Exchange.{exchangeBy}
-use Rattle.rules.specs.Command.{commandGrammar, walkBy, walkOf, commandOutcome, commandVerdict}
+use Rattle.rules.specs.Command.{walkBy, walkOf, commandOutcome, commandVerdict}
 use Rattle.dictionary.specs.Entries.{entryOf}
 use Rattle.dictionary.specs.Table.{IsTable, dictionaryBy}
-use Rattle.log.specs.Log.{putAll, loggedOf, avpsIn}
+use Rattle.log.specs.Log.{putAll, avpsIn}
 use Rattle.log.specs.Families.{loggedFrom}
 use Rattle.walk.specs.Answer.{countOf}
 use Rattle.walk.specs.Promise.{numberBy}
-use Rattle.rows.specs.ByLog.{rowsBy}
-use Rattle.rows.specs.Firsts.{noFirsts, firstsFrom}
-use Rattle.exchange.specs.Firsts.{findIn}
+use Rattle.lists.specs.Exchanges.{listsIn}
 use Rattle.reader.specs.declared.Judgement.{Judgement}
 
 -- ---- by a table of plain codes, whatever numbers it holds
 
--- the first positions in the command's own list, by what a log holds of so many AVPs
-abbrev pub firstsIn : List ℕ → ℕ → List ℕ
-firstsIn log count = firstsFrom count (loggedOf log) 0 count noFirsts
-
--- rows and exchange rules by what a log holds of so many AVPs; a count above 256 is read as 256
-unfoldable pub listsIn : List ℕ → List ℕ → ℕ → Outcome
-listsIn s log count =
-    orElse (rowsBy (loggedOf log) (commandGrammar (commandFlags s)) (length s) (min count mostAvps))
-    (exchangeBy (findIn (firstsIn log (min count mostAvps)) (min count mostAvps)) (isRequest (commandFlags s))
-    (avpsIn log count) s (length s))
-
 -- a fault of the walk is the answer; else its lists by the log that it left
 abbrev pub walkedIn : List ℕ → List ℕ → Walked → Outcome
-walkedIn s log (whole xs) = listsIn s log (length xs)
+walkedIn s log (whole xs) = listsIn (commandFlags s) s log (length s) (length xs)
 walkedIn s log (stopped xs v) = Refused v
 
 -- the outcome of a command whose walk went by a dictionary and left this log

@@ -2,52 +2,22 @@
 ghost use mathlib.Core.Path.{_≡_};
 ghost use Prim.Native.Nat.{_≤_};
 ghost use lib.ListN.{length};
-ghost use Rattle.rules.specs.Header.{headerSize, longestCommand, headerOutcome};
-ghost use Rattle.rules.specs.Command.{commandGrammar};
-ghost use Rattle.rows.specs.Firsts.{noFirsts};
-ghost use Rattle.reader.specs.Promise.{listsIn, IsJudgedBy, IsJudged};
+ghost use Rattle.rules.specs.Header.{headerSize, longestCommand, commandFlags, headerOutcome};
+ghost use Rattle.lists.specs.Exchanges.{listsIn};
+ghost use Rattle.reader.specs.Promise.{IsJudgedBy, IsJudged};
 use crate::Judgement;
 use crate::header;
-use dictionary::kinds;
 use dictionary::plain;
-use octets::has_flag;
-use rules::Grammar;
 use rules::Outcome;
-use rules::flags;
 use rules::limits;
 use walk::Walk;
-
-// The rows of a command go by R.
-fn command_grammar(flags: u8) -> Grammar
-    ensures { λ r. ⌜ r ≡ commandGrammar flags ⌝ }
-{
-    if has_flag(flags, flags::REQUEST) {
-        return Grammar::Request;
-    }
-    Grammar::Answer
-}
-
-// No entry was met yet in the command's own list: the number of places of a record is no position.
-fn no_firsts() -> [u16; kinds::ENTRIES]
-    ensures { λ r. ⌜ r ≡ noFirsts ⌝ }
-{
-    [limits::MOST_AVPS as u16; kinds::ENTRIES]
-}
 
 // Rows and exchange rules by what a log holds.
 fn lists_outcome(s: &[u8], log: &[u32; limits::LOG_NUMBERS], count: usize) -> Outcome
     requires { ⌜ (headerSize ≤ length (now s)) × (length (now s) ≤ longestCommand) ⌝ }
-    ensures { λ r. ⌜ r ≡ listsIn (now (s .entry)) (now (log .entry)) count ⌝ }
+    ensures { λ r. ⌜ r ≡ listsIn (commandFlags (now (s .entry))) (now (s .entry)) (now (log .entry)) (length (now (s .entry))) count ⌝ }
 {
-    let flags = s[4];
-    let end = s.len() as u32;
-    let mut firsts = no_firsts();
-    let rows = rows::judge(log, count, command_grammar(flags), end, &mut firsts);
-    let Outcome::Pass = rows else {
-        return rows;
-    };
-    let request = has_flag(flags, flags::REQUEST);
-    exchange::judge(request, s, log, count, end, &firsts)
+    lists::judge(s[4], s, log, count, s.len() as u32)
 }
 
 // The AVPs of a command whose header passed: its walk by a table of plain codes, into a lent log, then its lists.

@@ -1,6 +1,7 @@
 -- 01, Exchange rules (clause 4.4.1), over the AVPs of the walk: those of a request, those of an answer, and the
--- windows. `find` is the search of the command's own list, and `end` the end of that list. The definitions answer for
--- every list of AVPs; where walk or rows have refused a command before, the comment says so.
+-- windows. `find` is the search of a list, where nothing else is said the command's own, and `end` the end of that
+-- list. The definitions answer for every list of AVPs; where walk or rows have refused a command before, the comment
+-- says so.
 use Prim.Native.Nat.{ℕ, _+_}
 use mathlib.Core.List.{List, [], _∷_}
 use mathlib.Core.Bool.{Bool, cond}
@@ -106,13 +107,13 @@ policiesBy find xs end Nothing = Pass
 unfoldable pub policiesOutcome : (ℕ → ℕ → Found) → List Avp → ℕ → Outcome
 policiesOutcome find xs end = policiesBy find xs end (find vendor3GPP 4207)
 
--- the 4207 at position i holds an AVP, else 5005 at its own end
-abbrev pub heldBy : List Avp → ℕ → ℕ → ℕ → Outcome
-heldBy xs i vendor code = present (endOf (avpIn xs i)) vendor code (member xs i 2 vendor code)
+-- a 4207 whose members `find` searches, and which ends at `end`, holds 4204, then 432
+unfoldable pub policyIn : (ℕ → ℕ → Found) → ℕ → Outcome
+policyIn find end = orElse (require find end vendor3GPP 4204) (require find end 0 432)
 
--- each 4207 holds 4204, then 432
-unfoldable pub policyOutcome : List Avp → ℕ → Outcome
-policyOutcome xs i = orElse (heldBy xs i vendor3GPP 4204) (heldBy xs i 0 432)
+-- the 4207 at position i of the command's own list
+abbrev pub policyOutcome : List Avp → ℕ → Outcome
+policyOutcome xs i = policyIn (member xs i 2) (endOf (avpIn xs i))
 
 -- what is said of the AVP a at position i: of a 4207 of the command's own list its outcome
 abbrev pub policyAt : List Avp → ℕ → Avp → Outcome
@@ -124,10 +125,10 @@ eachPolicy xs i [] = Pass
 eachPolicy xs i (a ∷ rest) =
     orElse (policyAt xs i a) (eachPolicy xs (i + 1) rest)
 
--- BTA: its result, what its policies ask of the command, then each policy
-unfoldable pub answerOutcome : (ℕ → ℕ → Found) → List Avp → ℕ → Outcome
-answerOutcome find xs end =
-    orElse (resultOutcome find xs end) (orElse (policiesOutcome find xs end) (eachPolicy xs 0 xs))
+-- BTA: its result, what its policies ask of the command, then what is said of each policy
+unfoldable pub answerOutcome : (ℕ → ℕ → Found) → List Avp → ℕ → Outcome → Outcome
+answerOutcome find xs end policies =
+    orElse (resultOutcome find xs end) (orElse (policiesOutcome find xs end) policies)
 
 -- a window whose 4206 and 4205 stand at positions i and j: the start is before the end, else 5004 at 4205
 abbrev pub timesBy : List Avp → List ℕ → ℕ → ℕ → Outcome
@@ -143,10 +144,13 @@ windowBy xs s end (At i) Nothing = refused 5005 end vendor3GPP 4205
 windowBy xs s end Nothing (At j) = refused 5005 end vendor3GPP 4206
 windowBy xs s end Nothing Nothing = refused 5005 end vendor3GPP 4206
 
+-- a 4204 whose members `find` searches, and which ends at `end`
+unfoldable pub windowIn : (ℕ → ℕ → Found) → List Avp → List ℕ → ℕ → Outcome
+windowIn find xs s end = windowBy xs s end (find vendor3GPP 4206) (find vendor3GPP 4205)
+
 -- the 4204 at position i, whose members stand at this depth
-unfoldable pub windowOutcome : List Avp → List ℕ → ℕ → ℕ → Outcome
-windowOutcome xs s i depth =
-    windowBy xs s (endOf (avpIn xs i)) (member xs i depth vendor3GPP 4206) (member xs i depth vendor3GPP 4205)
+abbrev pub windowOutcome : List Avp → List ℕ → ℕ → ℕ → Outcome
+windowOutcome xs s i depth = windowIn (member xs i depth) xs s (endOf (avpIn xs i))
 
 -- what is said of the AVP a at position i: of a 4204, at any depth, its outcome
 abbrev pub windowAt : List Avp → List ℕ → ℕ → Avp → Outcome
@@ -158,14 +162,16 @@ eachWindow xs s i [] = Pass
 eachWindow xs s i (a ∷ rest) =
     orElse (windowAt xs s i a) (eachWindow xs s (i + 1) rest)
 
--- the rules of a request or of an answer
-abbrev pub byCommand : (ℕ → ℕ → Found) → Bool → List Avp → List ℕ → ℕ → Outcome
-byCommand find request xs s end = cond request (requestOutcome find xs s end) (answerOutcome find xs end)
+-- the rules of a request or of an answer; `policies` is what is said of each policy
+abbrev pub byCommand : (ℕ → ℕ → Found) → Bool → List Avp → List ℕ → ℕ → Outcome → Outcome
+byCommand find request xs s end policies =
+    cond request (requestOutcome find xs s end) (answerOutcome find xs end policies)
 
--- those rules, then the windows
-unfoldable pub exchangeBy : (ℕ → ℕ → Found) → Bool → List Avp → List ℕ → ℕ → Outcome
-exchangeBy find request xs s end = orElse (byCommand find request xs s end) (eachWindow xs s 0 xs)
+-- those rules, then what is said of the windows
+unfoldable pub exchangeBy : (ℕ → ℕ → Found) → Bool → List Avp → List ℕ → ℕ → Outcome → Outcome → Outcome
+exchangeBy find request xs s end policies windows = orElse (byCommand find request xs s end policies) windows
 
--- by the search that 01 defines: the first AVP at depth 1 with a vendor and code
+-- by the search that 01 defines, the first AVP at depth 1 with a vendor and code, with each policy and each window
 abbrev pub exchangeOutcome : Bool → List Avp → List ℕ → ℕ → Outcome
-exchangeOutcome request xs s end = exchangeBy (search xs) request xs s end
+exchangeOutcome request xs s end =
+    exchangeBy (search xs) request xs s end (eachPolicy xs 0 xs) (eachWindow xs s 0 xs)

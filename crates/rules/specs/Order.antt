@@ -17,7 +17,7 @@ use Rattle.rules.specs.Dictionary.{dictionary}
 use Rattle.rules.specs.Walk.{whole, stopped}
 use Rattle.rules.specs.RowChecks.{listOutcome, groupsOutcome}
 use Rattle.rules.specs.Search.{search}
-use Rattle.rules.specs.Exchange.{byCommand, eachWindow}
+use Rattle.rules.specs.Exchange.{byCommand, eachPolicy, eachWindow}
 use Rattle.rules.specs.Command.{commandGrammar, walkOf, commandVerdict}
 use Rattle.rules.specs.Draft.{Draft, isWellFormed}
 use Rattle.rules.specs.Writer.{draftOctets, writing}
@@ -53,7 +53,7 @@ abbrev pub groupRows : List ℕ → List Avp → Outcome
 groupRows c xs = groupsOutcome dictionary xs
 
 abbrev pub exchange : List ℕ → List Avp → Outcome
-exchange c xs = byCommand (search xs) (isRequest (commandFlags c)) xs c (length c)
+exchange c xs = byCommand (search xs) (isRequest (commandFlags c)) xs c (length c) (eachPolicy xs 0 xs)
 
 abbrev pub windows : List ℕ → List Avp → Outcome
 windows c xs = eachWindow xs c 0 xs

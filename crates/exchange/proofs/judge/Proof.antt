@@ -2,7 +2,6 @@
 use mathlib.Core.Path.{sym, _∙_, ap}
 use borrow.Author.Needs.{needs}
 use Rattle.rules.specs.Exchange.{exchangeBy}
-use Rattle.rules.proofs.Outcomes.{answers}
 use Rattle.log.specs.Log.{avpsIn}
 use Rattle.log.proofs.Log.{avps-used}
 use Rattle.exchange.proofs.judge.Statement.{statement}
@@ -27,20 +26,16 @@ returns c =
     let u = b .before in
     let a = u .before .before .args in
     let same = ap (avpsIn (a .log .now)) (u .used .ensures) ∙ avps-used (a .log .now) (a .count) in
-    answers _ _ _ (rw (← same, ← u .used .ensures, sym (b .by-command .ensures) ∙ c .enum-told2 .given .1) (c .enum-told2 .given .1))
-
-each-window-requires : tie.Need-each-window-requires
-each-window-requires c κs = search needs
+    rw (← same, ← u .used .ensures, sym (b .by-command .ensures) ∙ c .enum-told2 .given .1) (c .enum-told2 .given .1)
 
 returns-2 : tie.Need-returns-2
 unfolding exchangeBy
 returns-2 c =
-    let t = c .before in
-    let b = t .before .before in
+    let b = c .before .before in
     let u = b .before in
     let a = u .before .before .args in
     let same = ap (avpsIn (a .log .now)) (u .used .ensures) ∙ avps-used (a .log .now) (a .count) in
-    answers _ _ _ (rw (← same, ← u .used .ensures, sym (b .by-command .ensures) ∙ t .enum-told .given .1) (c .each-window .ensures))
+    rw (← same, ← u .used .ensures, sym (b .by-command .ensures) ∙ c .enum-told .given .1)
 
 pub judge-spec : {M : Type 1} → statement M
 judge-spec =
@@ -51,5 +46,4 @@ judge-spec =
     enum-told
     enum-told-2
     returns
-    each-window-requires
     returns-2)

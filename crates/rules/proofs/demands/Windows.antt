@@ -25,7 +25,7 @@ use Rattle.rules.specs.Walk.{whole}
 use Rattle.rules.specs.RowChecks.{rowsOutcome}
 use Rattle.rules.specs.Search.{blank, avpIn, member}
 use Rattle.rules.specs.Times.{isBefore}
-use Rattle.rules.specs.Exchange.{timesBy, windowBy, windowOutcome, windowAt, eachWindow, exchangeBy}
+use Rattle.rules.specs.Exchange.{timesBy, windowBy, windowIn, windowAt, eachWindow, exchangeBy}
 use Rattle.rules.specs.Command.{commandGrammar, walkOf, listsOutcome, commandVerdict}
 use Rattle.rules.specs.Demands.{AcceptedCommand}
 use Rattle.rules.specs.Order.{ownRows, groupRows, exchange, windows}
@@ -67,7 +67,7 @@ module _ (c : List ℕ) (xs : List Avp) (k : ℕ) where
 
     module _ (w : Window xs k i j) where
       by-times : windowAt xs c k (avpIn xs k) ≡ timesBy xs c i j
-      unfolding windowOutcome
+      unfolding windowIn
       by-times =
           rw (
             window-named (w .window),
@@ -106,7 +106,7 @@ module _ (c : List ℕ) (xs : List Avp) (k : ℕ) where
     found-right Nothing Nothing e f p = never p
 
     passed-right : windowAt xs c k (avpIn xs k) ≡ Pass → RightWindow c xs k
-    unfolding windowOutcome
+    unfolding windowIn
     passed-right p = found-right _ _ refl refl (rw (window-named w) at p)
 
   -- of an AVP that is no window nothing is said

@@ -32,20 +32,16 @@ unfolding answerOutcome
 returns-2 c =
     let p = c .before .before .before in
     let result = sym (p .before .before .result-outcome .ensures) ∙ p .enum-told .given .1 in
-    let policies = sym (c .before .before .policies-outcome .ensures) ∙ c .enum-told4 .given .1 in
-    rw (result, policies) (c .enum-told4 .given .1)
-
-each-policy-requires : tie.Need-each-policy-requires
-each-policy-requires c κs = search needs
+    let asked = sym (c .before .before .policies-outcome .ensures) ∙ c .enum-told4 .given .1 in
+    rw (result, asked) (c .enum-told4 .given .1)
 
 returns-3 : tie.Need-returns-3
 unfolding answerOutcome
 returns-3 c =
-    let q = c .before in
-    let p = q .before .before .before in
+    let p = c .before .before .before in
     let result = sym (p .before .before .result-outcome .ensures) ∙ p .enum-told .given .1 in
-    let policies = sym (q .before .before .policies-outcome .ensures) ∙ q .enum-told3 .given .1 in
-    rw (result, policies) (c .each-policy .ensures)
+    let asked = sym (c .before .before .policies-outcome .ensures) ∙ c .enum-told3 .given .1 in
+    rw (result, asked)
 
 pub answer-outcome-spec : {M : Type 1} → statement M
 answer-outcome-spec =
@@ -59,5 +55,4 @@ answer-outcome-spec =
     enum-told-3
     enum-told-4
     returns-2
-    each-policy-requires
     returns-3)

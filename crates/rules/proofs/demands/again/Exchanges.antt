@@ -15,7 +15,7 @@ use Rattle.rules.specs.declared.Found.the-variants.{At, Nothing}
 use Rattle.rules.specs.Octets.{numberAt}
 use Rattle.rules.specs.Avp.{named, endOf}
 use Rattle.rules.specs.Search.{blank, avpIn, isAt, firstFrom, search, member}
-use Rattle.rules.specs.Exchange.{byRequestType, requestBy, requestOutcome, windowBy, windowOutcome, eachWindow, exchangeBy, exchangeOutcome}
+use Rattle.rules.specs.Exchange.{byRequestType, requestBy, requestOutcome, windowBy, windowIn, windowOutcome, eachWindow, exchangeBy, exchangeOutcome}
 use Rattle.rules.proofs.Tests.{and-true}
 use Rattle.rules.proofs.Searches.{first-above, first-here, first-later, first-none}
 use Rattle.rules.proofs.Walk.{by-cases}
@@ -76,7 +76,7 @@ module _ (xs : List Avp) (s t : List ℕ) where
     window-by end i depth Nothing Nothing e h = refl
 
     window-same : (i depth : ℕ) → windowOutcome xs s i depth ≡ windowOutcome xs t i depth
-    unfolding windowOutcome
+    unfolding windowIn
     window-same i depth =
         window-by (endOf (avpIn xs i)) i depth (member xs i depth 10415 4206) (member xs i depth 10415 4205) refl refl
 

@@ -24,7 +24,7 @@ use Rattle.rules.specs.Dictionary.{Entry, defined, membersOf}
 use Rattle.rules.specs.Rows.{Row, rowsOf, admitsOthers}
 use Rattle.rules.specs.RowChecks.{admission, noneMet, counted, byMark, byAdmission, memberOutcome, missingFrom, membersOutcome, membersAt, groupOutcome, groupsOutcome, listOutcome, rowsOutcome}
 use Rattle.rules.specs.Search.{avpIn, isAt, search as searched, member}
-use Rattle.rules.specs.Exchange.{present, volume, notBeside, totalAlone, firstRequest, laterRequest, requestBy, requestOutcome, resultBy, resultOutcome, ifFound, policiesBy, policiesOutcome, policyOutcome, policyAt, eachPolicy, answerOutcome, windowBy, windowOutcome, windowAt, eachWindow, byCommand, exchangeBy, exchangeOutcome}
+use Rattle.rules.specs.Exchange.{present, volume, notBeside, totalAlone, firstRequest, laterRequest, requestBy, requestOutcome, resultBy, resultOutcome, ifFound, policiesBy, policiesOutcome, policyIn, policyOutcome, policyAt, eachPolicy, answerOutcome, windowBy, windowIn, windowOutcome, windowAt, eachWindow, byCommand, exchangeBy, exchangeOutcome}
 use Rattle.rules.proofs.demands.numbering.Refusals.{meets, AvpRefusals, pass-meets, either, both, in-turn}
 
 -- the command's list, then each group
@@ -155,7 +155,7 @@ module _ (t : Verdict → Bool) (r : AvpRefusals t) where
   policies-meets find xs end = search policies-by
 
   policy-meets : (xs : List Avp) (i : ℕ) → meets t (policyOutcome xs i) ≡ true
-  unfolding policyOutcome
+  unfolding policyIn
   policy-meets xs i = search (in-turn, present-meets)
 
   -- an outcome of some positions
@@ -170,10 +170,11 @@ module _ (t : Verdict → Bool) (r : AvpRefusals t) where
       in-turn t (policyAt xs i a) _ (where-meets (isAt a 1 10415 4207) (policyOutcome xs i) (policy-meets xs i))
       (each-policy-meets xs (i + 1) rest)
 
-  answer-meets : (find : ℕ → ℕ → Found) (xs : List Avp) (end : ℕ) → meets t (answerOutcome find xs end) ≡ true
+  answer-meets : (find : ℕ → ℕ → Found) (xs : List Avp) (end : ℕ) (policies : Outcome) → meets t policies ≡ true
+      → meets t (answerOutcome find xs end policies) ≡ true
   unfolding answerOutcome
-  answer-meets find xs end =
-      in-turn t _ _ (result-meets find xs end) (in-turn t _ _ (policies-meets find xs end) (each-policy-meets xs 0 xs))
+  answer-meets find xs end policies h =
+      in-turn t _ _ (result-meets find xs end) (in-turn t _ _ (policies-meets find xs end) h)
 
   window-by : (xs : List Avp) (s : List ℕ) (end : ℕ) (f g : Found) → meets t (windowBy xs s end f g) ≡ true
   unfolding meets
@@ -183,7 +184,7 @@ module _ (t : Verdict → Bool) (r : AvpRefusals t) where
   window-by xs s end Nothing Nothing = r .missing _ _ _
 
   window-meets : (xs : List Avp) (s : List ℕ) (i depth : ℕ) → meets t (windowOutcome xs s i depth) ≡ true
-  unfolding windowOutcome
+  unfolding windowIn
   window-meets xs s i depth =
       window-by xs s (endOf (avpIn xs i)) (member xs i depth 10415 4206) (member xs i depth 10415 4205)
 
@@ -197,12 +198,13 @@ module _ (t : Verdict → Bool) (r : AvpRefusals t) where
       (each-window-meets xs s (i + 1) rest)
 
   by-command : (find : ℕ → ℕ → Found) (request : Bool) (xs : List Avp) (s : List ℕ) (end : ℕ)
-      → meets t (byCommand find request xs s end) ≡ true
+      → meets t (byCommand find request xs s end (eachPolicy xs 0 xs)) ≡ true
   by-command find true xs s end = request-meets find xs s end
-  by-command find false xs s end = answer-meets find xs end
+  by-command find false xs s end = answer-meets find xs end (eachPolicy xs 0 xs) (each-policy-meets xs 0 xs)
 
   pub exchange-meets : (request : Bool) (xs : List Avp) (s : List ℕ) (end : ℕ)
       → meets t (exchangeOutcome request xs s end) ≡ true
   unfolding exchangeBy
   exchange-meets request xs s end =
-      in-turn t (byCommand (searched xs) request xs s end) _ (by-command (searched xs) request xs s end) (each-window-meets xs s 0 xs)
+      in-turn t (byCommand (searched xs) request xs s end (eachPolicy xs 0 xs)) _ (by-command (searched xs) request xs s end)
+      (each-window-meets xs s 0 xs)

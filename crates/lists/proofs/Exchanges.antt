@@ -1,0 +1,182 @@
+-- The lists of a command by the log of its walk are judged as document 01 judges its AVPs: each name that the exchange
+-- rules ask for has an entry, and by the first positions of entries a list and each group are searched as 01 searches
+-- them.
+use mathlib.Core.Path.{_≡_, refl, ap, _∙_}
+use mathlib.Core.Bool.{Bool, true, false, cond, _&&_}
+use mathlib.Core.List.{List}
+use Prim.Native.Nat.{ℕ, _+_, _≤_, _<_}
+use native.Mathlib.Nat.{zero-add}
+use borrow.Author.Tests.{eqb-true}
+use lib.Dec.{eqb, ltb→lt}
+use lib.ListN.{length, getD, drop}
+use Rattle.rules.specs.declared.Avp.{Avp}
+use Rattle.rules.specs.declared.Found.{Found}
+use Rattle.rules.specs.declared.Found.the-variants.{At, Nothing}
+use Rattle.rules.specs.declared.Outcome.{Outcome}
+use Rattle.rules.specs.declared.Outcome.the-variants.{Pass}
+use Rattle.rules.specs.Verdict.{orElse}
+use Rattle.rules.specs.Header.{isRequest}
+use Rattle.rules.specs.Avp.{named, endOf}
+use Rattle.rules.specs.Walk.{mostAvps}
+use Rattle.rules.specs.Dictionary.{dictionary}
+use Rattle.rules.specs.RowChecks.{rowsOutcome}
+use Rattle.rules.specs.Search.{search, member}
+use Rattle.rules.specs.Exchange.{direction, volume, totalAlone, firstRequest, laterRequest, requestBy, requestOutcome}
+use Rattle.rules.specs.Exchange.{resultOutcome, policiesBy, policiesOutcome, answerOutcome, byCommand, exchangeBy}
+use Rattle.rules.specs.Exchange.{policyIn, policyAt as policyOf, eachPolicy, windowIn, windowAt as windowOf, eachWindow}
+use Rattle.rules.specs.Exchange.{exchangeOutcome}
+use Rattle.rules.specs.Command.{commandGrammar}
+use Rattle.dictionary.specs.Entries.{numberWhere, entryOf}
+use Rattle.log.specs.Log.{Logged}
+use Rattle.log.specs.Families.{loggedFrom, Forest, IsForest}
+use Rattle.log.proofs.Forests.{Stands, stands-at}
+use Rattle.exchange.specs.Firsts.{findIn}
+use Rattle.lists.specs.ByLog.{firstFault}
+use Rattle.lists.specs.Firsts.{noFirsts, firstsFrom}
+use Rattle.lists.specs.Exchanges.{firstsAt, hasEntry, policyAt, windowAt, listsBy}
+use Rattle.lists.proofs.Finds.{IsKnown, known-only, first-among, find-same}
+use Rattle.lists.proofs.Walked.{FamilyAt, each-of, walked-rows}
+use Rattle.lists.proofs.Firsts.{first-positions, member-positions}
+
+-- ---- two searches that agree on the names of the dictionary: the rules say the same by either
+
+module _ (f g : ℕ → ℕ → Found) (same : (vendor code : ℕ) → IsKnown vendor code → f vendor code ≡ g vendor code) where
+  first-same : (xs : List Avp) (end : ℕ) → firstRequest f xs end ≡ firstRequest g xs end
+  unfolding dictionary numberWhere firstRequest volume direction totalAlone
+  first-same xs end =
+      rw (same 10415 532 tt, same 0 412 tt, same 0 414 tt, same 0 421 tt, same 10415 4209 tt, same 10415 4204 tt)
+
+  later-same : (end : ℕ) → laterRequest f end ≡ laterRequest g end
+  unfolding dictionary numberWhere laterRequest
+  later-same end = rw (same 10415 4202 tt, same 10415 4208 tt, same 0 293 tt)
+
+  request-by : (xs : List Avp) (s : List ℕ) (end : ℕ) (type : Found)
+      → requestBy f xs s end type ≡ requestBy g xs s end type
+  request-by xs s end (At i) = rw (first-same xs end, later-same end)
+  request-by xs s end Nothing = refl
+
+  policies-by : (xs : List Avp) (end : ℕ) (policy : Found) → policiesBy f xs end policy ≡ policiesBy g xs end policy
+  unfolding dictionary numberWhere
+  policies-by xs end (At i) = rw (same 10415 4202 tt, same 10415 2207 tt)
+  policies-by xs end Nothing = refl
+
+  request-same : (xs : List Avp) (s : List ℕ) (end : ℕ) → requestOutcome f xs s end ≡ requestOutcome g xs s end
+  unfolding dictionary numberWhere requestOutcome
+  request-same xs s end =
+      ap (requestBy f xs s end) (same 10415 4203 tt) ∙ request-by xs s end (g 10415 4203)
+
+  answer-same : (xs : List Avp) (end : ℕ) (policies : Outcome)
+      → answerOutcome f xs end policies ≡ answerOutcome g xs end policies
+  unfolding dictionary numberWhere answerOutcome resultOutcome policiesOutcome
+  answer-same xs end policies =
+      rw (same 0 268 tt, same 0 297 tt, same 10415 4207 tt, policies-by xs end (g 10415 4207))
+
+  exchange-same : (request : Bool) (xs : List Avp) (s : List ℕ) (end : ℕ) (policies : Outcome)
+      → byCommand f request xs s end policies ≡ byCommand g request xs s end policies
+  exchange-same true xs s end policies = request-same xs s end
+  exchange-same false xs s end policies = answer-same xs end policies
+
+  policy-same : (end : ℕ) → policyIn f end ≡ policyIn g end
+  unfolding dictionary numberWhere policyIn
+  policy-same end = rw (same 10415 4204 tt, same 0 432 tt)
+
+  window-same : (xs : List Avp) (s : List ℕ) (end : ℕ) → windowIn f xs s end ≡ windowIn g xs s end
+  unfolding dictionary numberWhere windowIn
+  window-same xs s end = rw (same 10415 4206 tt, same 10415 4205 tt)
+
+-- ---- the AVPs of a walk, which a log has
+
+module _ (ys : List Avp) (few : length ys ≤ mostAvps) (at : ℕ → Logged) where
+  -- the AVP at a position
+  module _ (a : Avp) (members rest : Forest) (above : ℕ) (xs : List Avp) (i : ℕ)
+      (here : FamilyAt (entryOf dictionary) at ys a members rest above xs i) where
+    -- the log has it, and its entry tells its name
+    is-logged : at i .avp ≡ a
+    is-logged = ap (λ (l : Logged). l .avp) (here .stands .first)
+
+    has-name : (vendor code : ℕ) → IsKnown vendor code → hasEntry (at i) vendor code ≡ named a vendor code
+    has-name vendor code known =
+        let k = ltb→lt (entryOf dictionary vendor code) (length dictionary) known in
+        rw (here .stands .first) (known-only dictionary vendor code k (a .vendor) (a .code))
+
+    -- by first positions its members are searched as 01 searches them
+    group-finds : (vendor code : ℕ) → IsKnown vendor code
+        → findIn (firstsAt at (length ys) i) (length ys) vendor code ≡ member ys i (a .depth + 1) vendor code
+    group-finds =
+        let all : i + 1 + length (drop (i + 1) ys) ≡ length ys = rw (here .behind) (here .all) in
+        find-same (i + 1) (length ys) few (member ys i (a .depth + 1))
+        (λ vendor code. rw all at (first-among vendor code (drop (i + 1) ys) (i + 1) (a .depth + 1) (a .depth + 1)))
+        (firstsAt at (length ys) i)
+        (λ vendor code k. member-positions at vendor code mostAvps k ys a members rest above xs i here few)
+
+    -- its name and its depth are asked for in either order; as a policy it stands at depth 1, and its members at 2
+    policy-by : (own top : Bool) (end : ℕ) → eqb (a .depth) 1 ≡ top
+        → cond (own && top) (policyIn (findIn (firstsAt at (length ys) i) (length ys)) end) Pass
+        ≡ cond (top && own) (policyIn (member ys i 2) end) Pass
+    policy-by true true end e =
+        let d : a .depth ≡ 1 = eqb-true (a .depth) 1 e in
+        policy-same _ (member ys i 2) (rw d at group-finds) end
+    policy-by true false end e = refl
+    policy-by false true end e = refl
+    policy-by false false end e = refl
+
+    policy-at : policyAt at (length ys) i ≡ policyOf ys i a
+    unfolding policyAt dictionary numberWhere
+    policy-at =
+        rw (has-name 10415 4207 tt, is-logged, here .here)
+        (policy-by (named a 10415 4207) (eqb (a .depth) 1) (endOf a) refl)
+
+    window-at : (s : List ℕ) → windowAt at ys s (length ys) i ≡ windowOf ys s i a
+    unfolding windowAt dictionary numberWhere
+    window-at s =
+        rw (
+          has-name 10415 4204 tt,
+          is-logged,
+          here .here,
+          window-same _ (member ys i (a .depth + 1)) group-finds ys s (endOf a),
+        )
+
+  -- all of them
+  module _ (forest : IsForest 1 ys) (stands : Stands (entryOf dictionary) at 0 ys) where
+    policies-of : firstFault (policyAt at (length ys)) (length ys) 0 ≡ eachPolicy ys 0 ys
+    unfolding eachPolicy
+    policies-of =
+        each-of (entryOf dictionary) at ys (policyAt at (length ys)) (λ i a xs. policyOf ys i a) (eachPolicy ys)
+        (λ i. refl) (λ i a xs. refl) policy-at forest stands
+
+    windows-of : (s : List ℕ) → firstFault (windowAt at ys s (length ys)) (length ys) 0 ≡ eachWindow ys s 0 ys
+    unfolding eachWindow
+    windows-of s =
+        each-of (entryOf dictionary) at ys (windowAt at ys s (length ys)) (λ i a xs. windowOf ys s i a)
+        (eachWindow ys s) (λ i. refl) (λ i a xs. refl)
+        (λ a members rest above xs i here. window-at a members rest above xs i here s) forest stands
+
+    -- and so is the command's own list
+    own-finds : (vendor code : ℕ) → IsKnown vendor code
+        → findIn (firstsFrom (length ys) at 0 (length ys) noFirsts) (length ys) vendor code ≡ search ys vendor code
+    own-finds =
+        find-same 0 (length ys) few (search ys)
+        (λ vendor code. rw (zero-add (length ys)) at (first-among vendor code ys 0 0 1)) _
+        (λ vendor code k. first-positions at vendor code mostAvps k ys forest few stands)
+
+    exchange-of : (request : Bool) (s : List ℕ) (end : ℕ)
+        → exchangeBy (findIn (firstsFrom (length ys) at 0 (length ys) noFirsts) (length ys)) request ys s end
+        (firstFault (policyAt at (length ys)) (length ys) 0) (firstFault (windowAt at ys s (length ys)) (length ys) 0)
+        ≡ exchangeOutcome request ys s end
+    unfolding exchangeBy
+    exchange-of request s end =
+        rw (policies-of, windows-of s)
+        (ap (λ (o : Outcome). orElse o (eachWindow ys s 0 ys))
+        (exchange-same _ (search ys) own-finds request ys s end (eachPolicy ys 0 ys)))
+
+-- the rows, then the exchange rules, by what a log has at each position; `other` is what stands where there is none
+pub walked-lists : (xs : List Avp) → IsForest 1 xs → length xs ≤ mostAvps → (at : ℕ → Logged) (other : Logged)
+    → ((i : ℕ) → i < length (loggedFrom (entryOf dictionary) 0 xs)
+    → at i ≡ getD (loggedFrom (entryOf dictionary) 0 xs) i other)
+    → (flags : ℕ) (s : List ℕ) (end : ℕ)
+    → listsBy at xs flags s end (length xs)
+    ≡ orElse (rowsOutcome dictionary (commandGrammar flags) end xs) (exchangeOutcome (isRequest flags) xs s end)
+unfolding listsBy
+walked-lists xs f few at other h flags s end =
+    let stands = stands-at (entryOf dictionary) at xs 0 other (λ i l. rw (zero-add i) (h i l)) in
+    rw (walked-rows xs f at other h (commandGrammar flags) end, exchange-of xs few at f stands (isRequest flags) s end)

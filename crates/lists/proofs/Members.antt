@@ -1,0 +1,158 @@
+-- Laws of the checks by the numbers of a log: the members of a list one by one, what is said at one position after
+-- another, and that what is no group is neither policy nor window.
+use mathlib.Core.Path.{_≡_, refl, sym, ap, _∙_}
+use mathlib.Core.List.{List, [], _∷_}
+use mathlib.Core.Bool.{Bool, true, false, cond}
+use Prim.Native.Nat.{ℕ, zero, suc, _+_, _-_, _≤_, _<_}
+use native.Mathlib.Omega.{arith}
+use native.Mathlib.Nat.{sub-zero}
+use borrow.Author.Tests.{lt-ltb, le-ltb, ltb-true, ne-eqb}
+use lib.Dec.{eqb, ltb}
+use Rattle.rules.specs.declared.Avp.{Avp}
+use Rattle.rules.specs.declared.Grammar.{Grammar}
+use Rattle.rules.specs.declared.Grammar.the-variants.{TimeWindow, TransferPolicy}
+use Rattle.rules.specs.declared.Members.the-variants.{Under, NoMembers}
+use Rattle.rules.specs.declared.Verdict.{Verdict}
+use Rattle.rules.specs.declared.Outcome.{Outcome}
+use Rattle.rules.specs.declared.Outcome.the-variants.{Pass, Refused}
+use Rattle.rules.specs.declared.Admission.{Admission}
+use Rattle.rules.specs.Verdict.{orElse}
+use Rattle.rules.specs.Header.{vendor3GPP, isRequest}
+use Rattle.rules.specs.Rows.{admitsOthers}
+use Rattle.rules.specs.Dictionary.{dictionary, membersOf}
+use Rattle.rules.specs.RowChecks.{counted, byAdmission, missing}
+use Rattle.rules.specs.Exchange.{exchangeBy}
+use Rattle.rules.specs.Command.{commandGrammar}
+use Rattle.rules.proofs.Outcomes.{refused-first, or-pass, or-assoc}
+use Rattle.dictionary.specs.Entries.{numberWhere, entryOf, definitionAt}
+use Rattle.log.specs.Log.{Logged}
+use Rattle.exchange.specs.Firsts.{findIn}
+use Rattle.lists.specs.ByLog.{admissionAt, hops, membersBy, listBy, groupAt, firstFault, rowsBy}
+use Rattle.lists.specs.Firsts.{noFirsts, firstsFrom}
+use Rattle.lists.specs.Exchanges.{policyAt, windowAt, listsBy}
+
+-- what is left of a list from position i on, with the counts so far
+abbrev pub leftBy : (ℕ → Logged) → ℕ → Grammar → ℕ → List ℕ → Bool → ℕ → Outcome
+leftBy at stop g end counts first i = membersBy g end counts first (hops (stop - i) at i stop)
+
+module _ (at : ℕ → Logged) where
+  -- ---- the members of a list
+
+  module _ (stop : ℕ) where
+    hops-none : (n i : ℕ) → stop ≤ i → hops n at i stop ≡ []
+    unfolding hops
+    hops-none zero i h = refl
+    hops-none (suc n) i h = rw (le-ltb i stop h)
+
+    hops-next : (n i : ℕ) → i < stop → hops (suc n) at i stop ≡ at i ∷ hops n at (at i .after) stop
+    unfolding hops
+    hops-next n i h = rw (lt-ltb i stop h)
+
+    -- where each hop goes on, enough steps give the same members
+    module _ (onward : (i : ℕ) → i < stop → i < at i .after) where
+      hops-again : (n m i : ℕ) (more : Bool) → ltb i stop ≡ more
+          → (i < stop → hops n at (at i .after) stop ≡ hops m at (at i .after) stop)
+          → hops (suc n) at i stop ≡ hops (suc m) at i stop
+      unfolding hops
+      hops-again n m i true e same = rw e (ap (λ (ls : List Logged). at i ∷ ls) (same (ltb-true i stop e)))
+      hops-again n m i false e same = rw e
+
+      hops-enough : (n m i : ℕ) → stop - i ≤ n → stop - i ≤ m → hops n at i stop ≡ hops m at i stop
+      hops-enough zero m i h k = hops-none zero i (omega arith) ∙ sym (hops-none m i (omega arith))
+      hops-enough (suc n) zero i h k = hops-none (suc n) i (omega arith) ∙ sym (hops-none zero i (omega arith))
+      hops-enough (suc n) (suc m) i h k =
+          hops-again n m i (ltb i stop) refl
+          (λ l. hops-enough n m (at i .after) (omega (arith, onward i l)) (omega (arith, onward i l)))
+
+      hops-first : (i : ℕ) → i < stop → hops (stop - i) at i stop ≡ at i ∷ hops (stop - at i .after) at (at i .after) stop
+      hops-first i h =
+          let e : stop - i ≡ suc (stop - i - 1) = omega arith in
+          ap (λ (n : ℕ). hops n at i stop) e
+          ∙ hops-next (stop - i - 1) i h
+          ∙ ap (λ (ls : List Logged). at i ∷ ls)
+          (hops-enough (stop - i - 1) (stop - at i .after) (at i .after) (omega (arith, onward i h)) (omega arith))
+
+      module _ (g : Grammar) (end : ℕ) (counts : List ℕ) (first : Bool) (i : ℕ) where
+        -- the member at the position, with the row that names it and what that says
+        pub members-next : i < stop → (l : Logged) (m : Admission) (o : Outcome) → l ≡ at i → m ≡ admissionAt g (l .entry)
+            → o ≡ byAdmission (admitsOthers g) counts first (l .avp) m
+            → leftBy at stop g end counts first i ≡ orElse o (leftBy at stop g end (counted counts m) false (l .after))
+        unfolding membersBy
+        members-next h l m o e p q = rw (hops-first i h, q, p, e)
+
+    pub members-none : (g : Grammar) (end : ℕ) (counts : List ℕ) (first : Bool) (i : ℕ) → stop ≤ i
+        → leftBy at stop g end counts first i ≡ missing g counts end
+    unfolding membersBy
+    members-none g end counts first i h = rw (hops-none (stop - i) i h)
+
+-- ---- the first fault of what is said at the positions before `count`
+
+module _ (said : ℕ → Outcome) (count : ℕ) where
+  -- `o` is the first fault before position i
+  abbrev pub Reached : Outcome → ℕ → Type 0
+  Reached o i = orElse o (firstFault said (count - i) i) ≡ firstFault said count 0
+
+  pub reached-none : Reached Pass 0
+  reached-none = rw (sub-zero count)
+
+  -- with what is said at the position
+  pub reached-next : (o p : Outcome) (i : ℕ) → Reached o i → i < count → p ≡ said i → Reached (orElse o p) (i + 1)
+  unfolding firstFault
+  reached-next o p i r h e =
+      let n : count - i ≡ suc (count - (i + 1)) = omega arith in
+      or-assoc o p _ ∙ rw e (rw n at r)
+
+  -- where nothing is said there
+  pub reached-pass : (o : Outcome) (i : ℕ) → Reached o i → i < count → Pass ≡ said i → Reached o (i + 1)
+  reached-pass o i r h e = rw (or-pass o) at (reached-next o Pass i r h e)
+
+  pub reached-all : (o : Outcome) (i : ℕ) → Reached o i → count ≤ i → o ≡ firstFault said count 0
+  unfolding firstFault
+  reached-all o i r h =
+      let n : count - i ≡ 0 = omega arith in
+      sym (or-pass o) ∙ (rw n at r)
+
+  -- a fault is the answer, whatever is said behind it
+  pub reached-fault : (o : Outcome) {v : Verdict} (i : ℕ) → Reached o i → o ≡ Refused v → o ≡ firstFault said count 0
+  reached-fault o i r e = sym (refused-first o _ e) ∙ r
+
+-- ---- AVPs that are no group
+
+module _ (at : ℕ → Logged) (count i : ℕ) (none : membersOf (definitionAt dictionary (at i .entry)) ≡ NoMembers) where
+  -- have no entry of a group
+  no-entry : (n : ℕ) (g : Grammar) → membersOf (definitionAt dictionary n) ≡ Under g → eqb (at i .entry) n ≡ false
+  no-entry n g group =
+      ne-eqb (at i .entry) n (λ same.
+      let denied = sym none ∙ ap (λ (k : ℕ). membersOf (definitionAt dictionary k)) same ∙ group in
+      let z : _≡_ {A = ℕ} 0 1 = cc in absurd (omega arith))
+
+  pub no-rows : Pass ≡ groupAt at count i
+  no-rows = rw none
+
+  pub no-policy : Pass ≡ policyAt at count i
+  unfolding dictionary numberWhere definitionAt policyAt
+  no-policy = rw (no-entry (entryOf dictionary vendor3GPP 4207) TransferPolicy refl)
+
+  pub no-window : (xs : List Avp) (s : List ℕ) → Pass ≡ windowAt at xs s count i
+  unfolding dictionary numberWhere definitionAt windowAt
+  no-window xs s = rw (no-entry (entryOf dictionary vendor3GPP 4204) TimeWindow refl)
+
+-- ---- the command's list, then the groups, then the exchange rules
+
+module _ (at : ℕ → Logged) (xs : List Avp) (flags : ℕ) (s : List ℕ) (end count : ℕ) (own : Outcome)
+    (is : own ≡ listBy at (commandGrammar flags) end 0 count) where
+  pub own-refused : {v : Verdict} → own ≡ Refused v → own ≡ listsBy at xs flags s end count
+  unfolding listsBy rowsBy
+  own-refused e = rw (sym is ∙ e) e
+
+  module _ (passed : own ≡ Pass) (groups : Outcome) (all : groups ≡ firstFault (groupAt at count) count 0) where
+    pub group-refused : {v : Verdict} → groups ≡ Refused v → groups ≡ listsBy at xs flags s end count
+    unfolding listsBy rowsBy
+    group-refused e = rw (sym is ∙ passed, sym all ∙ e) e
+
+    pub rows-passed : groups ≡ Pass
+        → exchangeBy (findIn (firstsFrom count at 0 count noFirsts) count) (isRequest flags) xs s end
+        (firstFault (policyAt at count) count 0) (firstFault (windowAt at xs s count) count 0)
+        ≡ listsBy at xs flags s end count
+    unfolding listsBy rowsBy
+    rows-passed e = rw (sym is ∙ passed, sym all ∙ e)

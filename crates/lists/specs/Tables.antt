@@ -1,0 +1,91 @@
+-- The rows of all lists as two tables of numbers: what a number says, and the rule of each right table, which holds for
+-- all lists at once.
+use mathlib.Core.Path.{_≡_}
+use Prim.Native.Nat.{ℕ, zero, suc, _+_, _*_, _/_, _%_, _≤_, _<_}
+use mathlib.Core.List.{List, [], _∷_}
+use mathlib.Core.Bool.{cond}
+use lib.ListN.{length, getD}
+use lib.Dec.{eqb, leb}
+use Rattle.rules.specs.declared.Mark.{Mark}
+use Rattle.rules.specs.declared.Mark.the-variants.{First, Once, AtMostOnce, AnyNumber}
+use Rattle.rules.specs.declared.Grammar.{Grammar}
+use Rattle.rules.specs.declared.Grammar.the-variants.{Request, Answer, VendorSpecificApplicationId, ExperimentalResult, ProxyInfo, SupportedFeatures, TimeWindow, TransferPolicy}
+use Rattle.rules.specs.declared.Admission.{Admission}
+use Rattle.rules.specs.declared.Admission.the-variants.{ByRow, NoRow}
+use Rattle.rules.specs.Rows.{Row, rowsOf}
+use Rattle.rules.specs.Dictionary.{dictionary}
+use Rattle.rules.specs.Walk.{mostAvps}
+use Rattle.dictionary.specs.Entries.{vendorOf, codeOf}
+use Rattle.lists.specs.ByLog.{admissionAt}
+
+-- the lists in the order of the tables
+abbrev pub lists : List Grammar
+lists =
+    Request ∷ Answer ∷ VendorSpecificApplicationId ∷ ExperimentalResult ∷ ProxyInfo ∷ SupportedFeatures ∷ TimeWindow ∷
+    TransferPolicy ∷ []
+
+abbrev pub listAt : ℕ → Grammar
+listAt n = getD lists n Request
+
+-- a list stands at this place of the order
+pub record ListAt (g : Grammar) (n : ℕ) : Type 0 where
+  pub below : n < length lists
+  pub is : listAt n ≡ g
+
+-- the places that a list has in the tables: one for each entry of the dictionary, and 24 for its rows
+abbrev pub entryPlaces : ℕ
+entryPlaces = length dictionary
+
+abbrev pub rowPlaces : ℕ
+rowPlaces = 24
+
+-- a mark by its number
+abbrev pub markAt : ℕ → Mark
+markAt zero = First
+markAt (suc zero) = Once
+markAt (suc (suc zero)) = AtMostOnce
+markAt (suc (suc (suc n))) = AnyNumber
+
+-- ---- the table over the entries
+
+-- a number is 32 times a mark and a row; from 24 on it is no row
+unfoldable pub admissionIn : ℕ → Admission
+admissionIn number = cond (leb rowPlaces (number % 32)) NoRow (ByRow (number % 32) (markAt (number / 32)))
+
+pub record AdmissionTable (table : List ℕ) : Type 0 where
+  pub rule : (g : Grammar) (n entry : ℕ) → ListAt g n → entry < entryPlaces
+      → admissionIn (getD table (n * entryPlaces + entry) 0) ≡ admissionAt g entry
+
+-- what a lookup promises: the row that names an entry in a list, and that the row has a count
+pub record Admits (g : Grammar) (entry : ℕ) (r : Admission) : Type 0 where
+  pub is : r ≡ admissionAt g entry
+  pub below : (row : ℕ) (mark : Mark) → r ≡ ByRow row mark → row < rowPlaces
+
+-- ---- the table of the rows in the printed order
+
+-- a number is 64 times a mark and an entry
+abbrev pub markIn : ℕ → Mark
+markIn number = markAt (number / 64)
+
+unfoldable pub rowIn : ℕ → Row
+rowIn number = record { vendor = vendorOf dictionary (number % 64); code = codeOf dictionary (number % 64); mark = markIn number }
+
+-- behind the last row of a list
+abbrev pub endOfRows : ℕ
+endOfRows = 255
+
+-- the rows that stand at n places, up to the end
+unfoldable pub rowsFrom : ℕ → List ℕ → ℕ → List Row
+rowsFrom zero table place = []
+rowsFrom (suc n) table place =
+    cond (eqb (getD table place 0) endOfRows) [] (rowIn (getD table place 0) ∷ rowsFrom n table (place + 1))
+
+pub record RowTable (table : List ℕ) : Type 0 where
+  pub rule : (g : Grammar) (n : ℕ) → ListAt g n → rowsFrom rowPlaces table (n * rowPlaces) ≡ rowsOf g
+
+-- ---- what the checks of lists are lent: positions that a log has, and the two right tables
+
+pub record Lent (stop : ℕ) (admissions rows : List ℕ) : Type 0 where
+  pub few : stop ≤ mostAvps
+  pub admits : AdmissionTable admissions
+  pub wants : RowTable rows
