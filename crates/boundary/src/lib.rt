@@ -1,6 +1,6 @@
 // The boundary for C and Rust callers: the verdict, the record as numbers, the data of a position, the search, the
-// writer, the canonical form, the seconds between two times, and commands from a link. include/talazumir.h says the same
-// in C's terms.
+// writer, the canonical form, the seconds between two times, and commands from a link. include/talazumir.h says the
+// same in C's terms.
 ghost use mathlib.Core.Path.{_≡_};
 ghost use Rattle.rules.specs.Times.{seconds};
 ghost use Rattle.reader.specs.Promise.{Judged};

@@ -4,8 +4,8 @@ use mathlib.Core.Path.{_≡_, refl, sym, ap, _∙_}
 use mathlib.Core.List.{List, [], _∷_, _++_}
 use mathlib.Core.Bool.{Bool, true, false, cond, _&&_}
 use mathlib.Core.Logic.{⊎-elim}
-use Prim.Native.Nat.{ℕ, zero, suc, _+_, _≤_, _<_}
-use native.Mathlib.Nat.{add-zero, zero-add, eq-or-lt-of-le}
+use Prim.Native.Nat.{ℕ, zero, suc, _+_, _-_, _≤_, _<_}
+use native.Mathlib.Nat.{add-zero, zero-add, sub-zero, eq-or-lt-of-le}
 use native.Mathlib.Omega.{arith}
 use lib.Dec.{T, eqb, leb, eqb→eq}
 use lib.ListN.{length, getD}
@@ -13,10 +13,11 @@ use borrow.Author.Tests.{leb-true, leb-false, le-leb, eqb-true, eqb-false, ne-eq
 use Rattle.rules.specs.declared.Definition.{Definition}
 use Rattle.rules.specs.declared.Definition.the-variants.{Known, Unknown}
 use Rattle.rules.specs.declared.Form.{Form}
+use Rattle.rules.specs.Header.{vendor3GPP}
 use Rattle.rules.specs.Dictionary.{Entry, find, dictionary}
 use Rattle.rules.proofs.Names.{both-hold}
-use Rattle.dictionary.specs.Entries.{entryOf, definitionAt}
-use Rattle.dictionary.specs.Table.{plainCodes, noEntry, plainEntry, IsTable, entryBy, consDefined, plainFrom, withVendor, dictionaryBy}
+use Rattle.dictionary.specs.Entries.{entryOf, leastNtCode, ntCodes, definitionAt}
+use Rattle.dictionary.specs.Table.{plainCodes, noEntry, plainEntry, IsTable, IsNtTable, entryBy, consDefined, plainFrom, withVendor, dictionaryBy}
 use Rattle.dictionary.proofs.Entries.{found-is, few-entries, noneOf, none-found, cond-same, definition-behind}
 
 -- ---- the rule
@@ -34,50 +35,70 @@ every-from test (x ∷ xs) i t (suc k) h =
     let e : suc i + k ≡ i + suc k = omega arith in
     rw (← e) (every-from test xs (suc i) (both-hold (test i x) (every test (suc i) xs) t .1) k (omega arith))
 
--- the number at a code's place is what the search finds
-abbrev isFound : ℕ → ℕ → Bool
-isFound code n = eqb n (entryOf dictionary 0 code)
+-- a table of the codes of a vendor from `least` on, and before `last`
+module _ (vendor least last : ℕ) where
+  -- the number at a code's place is what the search finds
+  abbrev isFound : ℕ → ℕ → Bool
+  isFound place n = eqb n (entryOf dictionary vendor (least + place))
 
--- an entry without vendor that has no place in a table
-abbrev isBeyond : Entry → Bool
-isBeyond e = leb plainCodes (e .code) && eqb 0 (e .vendor)
+  -- an entry of the vendor that has no place in the table
+  abbrev isBeyond : Entry → Bool
+  isBeyond e = leb last (e .code) && eqb vendor (e .vendor)
 
--- the test of a whole table
-abbrev pub fits : List ℕ → Bool
-fits table = eqb (length table) plainCodes && (every isFound 0 table && noneOf isBeyond dictionary)
+  -- the test of a whole table
+  abbrev pub fits : List ℕ → Bool
+  fits table = eqb (least + length table) last && (every isFound 0 table && noneOf isBeyond dictionary)
 
-not-wanted : (code : ℕ) → plainCodes ≤ code → (e : Entry) (b : Bool) → eqb code (e .code) ≡ b → isBeyond e ≡ false
-    → (b && eqb 0 (e .vendor)) ≡ false
-not-wanted code far e false h f = refl
-not-wanted code far e true h f =
-    let same = eqb-true code (e .code) h in
-    let there : leb plainCodes (e .code) ≡ true = le-leb plainCodes (e .code) (omega arith) in
-    rw there at f
+  not-wanted : (code : ℕ) → last ≤ code → (e : Entry) (b : Bool) → eqb code (e .code) ≡ b → isBeyond e ≡ false
+      → (b && eqb vendor (e .vendor)) ≡ false
+  not-wanted code far e false h f = refl
+  not-wanted code far e true h f =
+      let same = eqb-true code (e .code) h in
+      let there : leb last (e .code) ≡ true = le-leb last (e .code) (omega arith) in
+      rw there at f
 
-beyond-none : T (noneOf isBeyond dictionary) → (code : ℕ) → plainCodes ≤ code → entryOf dictionary 0 code ≡ noEntry
-beyond-none t code far =
-    none-found isBeyond (λ e. eqb code (e .code) && eqb 0 (e .vendor))
-    (λ e f. not-wanted code far e (eqb code (e .code)) refl f) dictionary t
+  -- behind the last place the search finds nothing
+  pub beyond : T (noneOf isBeyond dictionary) → (code : ℕ) → last ≤ code → entryOf dictionary vendor code ≡ noEntry
+  beyond t code far =
+      none-found isBeyond (λ e. eqb code (e .code) && eqb vendor (e .vendor))
+      (λ e f. not-wanted code far e (eqb code (e .code)) refl f) dictionary t
 
-at-place : (table : List ℕ) (code : ℕ) (far : Bool) → leb plainCodes code ≡ far
-    → (code < plainCodes → getD table code 0 ≡ entryOf dictionary 0 code)
-    → (plainCodes ≤ code → entryOf dictionary 0 code ≡ noEntry) → plainEntry table code ≡ entryOf dictionary 0 code
+  -- at each place it finds what stands there
+  module _ (table : List ℕ) (t : T (fits table)) where
+    tests : T (eqb (least + length table) last) × T (every isFound 0 table) × T (noneOf isBeyond dictionary)
+    tests =
+        let a = both-hold (eqb (least + length table) last) (every isFound 0 table && noneOf isBeyond dictionary) t in
+        let b = both-hold (every isFound 0 table) (noneOf isBeyond dictionary) (a .1) in
+        (a .0, b .0, b .1)
+
+    size : least + length table ≡ last
+    size = eqb→eq (least + length table) last (tests .0)
+
+    at-place : (code : ℕ) → least ≤ code → code < last
+        → getD table (code - least) 0 ≡ entryOf dictionary vendor code
+    at-place code from to =
+        let place : least + (0 + (code - least)) ≡ code = omega arith in
+        eqb→eq _ _ (rw place at (every-from isFound table 0 (tests .1) (code - least) (omega (arith, size))))
+
+-- the rule of the table of plain codes
+plain-at : (table : List ℕ) → T (fits 0 0 plainCodes table) → (code : ℕ) (far : Bool) → leb plainCodes code ≡ far
+    → plainEntry table code ≡ entryOf dictionary 0 code
 unfolding plainEntry
-at-place table code true h within beyond = rw h (sym (beyond (leb-true plainCodes code h)))
-at-place table code false h within beyond = rw h (within (leb-false plainCodes code h))
+plain-at table t code true h = rw h (sym (beyond 0 0 plainCodes (tests 0 0 plainCodes table t .2) code (leb-true plainCodes code h)))
+plain-at table t code false h =
+    let here = at-place 0 0 plainCodes table t code (omega arith) (leb-false plainCodes code h) in
+    rw h (rw (sub-zero code) at here)
 
--- the test of the whole table turned into the rule at each place
-pub table-rule : (table : List ℕ) → T (fits table) → IsTable table
+pub table-rule : (table : List ℕ) → T (fits 0 0 plainCodes table) → IsTable table
 table-rule table t =
-    let a = both-hold (eqb (length table) plainCodes) (every isFound 0 table && noneOf isBeyond dictionary) t in
-    let b = both-hold (every isFound 0 table) (noneOf isBeyond dictionary) (a .1) in
-    let size = eqb→eq (length table) plainCodes (a .0) in
     record {
-      size = size;
-      finds = λ code. at-place table code (leb plainCodes code) refl
-          (λ h. eqb→eq _ _ (rw (zero-add code) at (every-from isFound table 0 (b .0) code (omega arith))))
-          (beyond-none (b .1) code);
+      size = rw (zero-add (length table)) at (size 0 0 plainCodes table t);
+      finds = λ code. plain-at table t code (leb plainCodes code) refl;
     }
+
+-- that of the table of 3GPP's codes for Nt alone
+pub nt-rule : (table : List ℕ) → T (fits vendor3GPP leastNtCode (leastNtCode + ntCodes) table) → IsNtTable table
+nt-rule table t = record { finds = at-place vendor3GPP leastNtCode (leastNtCode + ntCodes) table t }
 
 found-at : (table : List ℕ) → IsTable table → (vendor code : ℕ) (plain : Bool) → eqb vendor 0 ≡ plain
     → entryBy table vendor code ≡ entryOf dictionary vendor code

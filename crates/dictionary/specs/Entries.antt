@@ -22,6 +22,10 @@ entryOf dict vendor code = numberWhere (λ e. eqb code (e .code) && eqb vendor (
 abbrev pub leastNtCode : ℕ
 leastNtCode = 4201
 
+-- and there are so many, one after the other
+abbrev pub ntCodes : ℕ
+ntCodes = 9
+
 -- what is said of the entry with a number, or else of none
 abbrev pub saidAt : {A : Type 0} → A → (Entry → A) → List Entry → ℕ → A
 saidAt none says [] n = none

@@ -1,15 +1,16 @@
 -- Request [6]: a table of plain codes, AVP codes without vendor from 0 to 650, which leads each to the number of its
 -- entry. What a table says is defined for whatever numbers it holds; `IsTable` is the rule of the right one.
 use mathlib.Core.Path.{_≡_}
-use Prim.Native.Nat.{ℕ, zero, suc}
+use Prim.Native.Nat.{ℕ, zero, suc, _+_, _-_, _≤_, _<_}
 use mathlib.Core.List.{List, [], _∷_, _++_}
 use mathlib.Core.Bool.{cond}
 use lib.Dec.{eqb, leb}
 use lib.ListN.{length, getD}
 use Rattle.rules.specs.declared.Definition.{Definition}
 use Rattle.rules.specs.declared.Definition.the-variants.{Known, Unknown}
+use Rattle.rules.specs.Header.{vendor3GPP}
 use Rattle.rules.specs.Dictionary.{Entry, dictionary}
-use Rattle.dictionary.specs.Entries.{entryOf, definitionAt}
+use Rattle.dictionary.specs.Entries.{entryOf, leastNtCode, ntCodes, definitionAt}
 
 -- the codes that a table has places for
 abbrev pub plainCodes : ℕ
@@ -31,6 +32,11 @@ pub record IsTable (table : List ℕ) : Type 0 where
 -- the entry of a name by a table: a name without vendor through the table, others by the search
 unfoldable pub entryBy : List ℕ → ℕ → ℕ → ℕ
 entryBy table vendor code = cond (eqb vendor 0) (plainEntry table code) (entryOf dictionary vendor code)
+
+-- the rule of the table of 3GPP's codes for Nt alone
+pub record IsNtTable (table : List ℕ) : Type 0 where
+  pub finds : (code : ℕ) → leastNtCode ≤ code → code < leastNtCode + ntCodes
+      → getD table (code - leastNtCode) 0 ≡ entryOf dictionary vendor3GPP code
 
 -- ---- the dictionary that a table stands for; the right one stands for document 01's
 

@@ -1,6 +1,6 @@
 // The AVP kinds of document 01's dictionary, in the order of its entries: Vendor-Id, AVP code and, where it is fixed,
-// the width of the data, as constants of each kind; the number of its entry, which is its position; and the facts of the
-// entry in one number. The dictionary, the rows and the exchange rules name an AVP by these alone.
+// the width of the data, as constants of each kind; the number of its entry, which is its position; and the facts of
+// the entry in one number. The dictionary, the rows and the exchange rules name an AVP by these alone.
 use rules::limits::NO_VENDOR;
 use rules::limits::VENDOR_3GPP;
 

@@ -1,5 +1,5 @@
-// 01, Dictionary: each code of a vendor up to 4,300 through the table of plain codes or the search. A line for each code
-// that has an entry, in their order: vendor and code, whether M must be set, and the form of the data.
+// 01, Dictionary: each code of a vendor up to 4,300 through the table of plain codes or the search. A line for each
+// code that has an entry, in their order: vendor and code, whether M must be set, and the form of the data.
 use crate::print;
 use dictionary::plain;
 

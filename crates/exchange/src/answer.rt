@@ -71,7 +71,8 @@ fn policies_outcome(
     require(firsts, count, end, PcrfAddress::ENTRY)
 }
 
-// A transfer policy by the first positions of its members: it ends at `end`, and holds a Time-Window and a Rating-Group.
+// A transfer policy by the first positions of its members: it ends at `end`, and holds a Time-Window and a
+// Rating-Group.
 pub fn policy_outcome(firsts: &[u16; kinds::ENTRIES], count: usize, end: u32) -> Outcome
     ensures { λ r. ⌜ r ≡ policyIn (findIn (now (firsts .entry)) count) end ⌝ }
 {

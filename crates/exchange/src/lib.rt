@@ -1,5 +1,5 @@
-// 01, Exchange rules: those of a request, of an answer, of a transfer policy and of a time window, by the first position
-// of each entry in a list. A search for an AVP is in `search`, the rules in the modules of their names.
+// 01, Exchange rules: those of a request, of an answer, of a transfer policy and of a time window, by the first
+// position of each entry in a list. A search for an AVP is in `search`, the rules in the modules of their names.
 ghost use mathlib.Core.Path.{_≡_};
 ghost use Prim.Native.Nat.{_≤_, min};
 ghost use Rattle.rules.specs.Exchange.{byCommand, exchangeBy};
@@ -34,8 +34,9 @@ fn by_command(
     answer::answer_outcome(log, firsts, count, end, policies)
 }
 
-// What the exchange rules say of the command `s`, whose walk is in the log and whose own list ends at `end`, by the first
-// position of each entry in that list; `policies` and `windows` are what is said of each policy and of each window.
+// What the exchange rules say of the command `s`, whose walk is in the log and whose own list ends at `end`, by the
+// first position of each entry in that list; `policies` and `windows` are what is said of each policy and of each
+// window.
 pub fn judge(
     request: bool,
     s: &[u8],

@@ -1,5 +1,6 @@
--- The listing of a stream (docs/rules.md, Listing of a stream), piece by piece: a line for each command as soon as it is
--- whole, with its ordinal, its offset in the stream and its verdict; `stopped` with number and place where the run stops.
+-- The listing of a stream (docs/rules.md, Listing of a stream), piece by piece: a line for each command as soon as it
+-- is whole, with its ordinal, its offset in the stream and its verdict; `stopped` with number and place where the run
+-- stops.
 use Prim.Native.Nat.{ℕ, zero, suc, _+_, _%_, _^_}
 use mathlib.Core.List.{List, [], _∷_, _++_}
 use mathlib.Core.Bool.{Bool, cond, not, _||_}

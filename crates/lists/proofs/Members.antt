@@ -39,14 +39,17 @@ module _ (at : ℕ → Logged) where
   -- ---- the members of a list
 
   module _ (stop : ℕ) where
-    hops-none : (n i : ℕ) → stop ≤ i → hops n at i stop ≡ []
+    -- none, from `stop` on
+    pub hops-none : (n i : ℕ) → stop ≤ i → hops n at i stop ≡ []
     unfolding hops
     hops-none zero i h = refl
     hops-none (suc n) i h = rw (le-ltb i stop h)
 
-    hops-next : (n i : ℕ) → i < stop → hops (suc n) at i stop ≡ at i ∷ hops n at (at i .after) stop
+    -- before it, the one at the position, then those behind its last descendant
+    pub hops-next : (n i : ℕ) (l : Logged) → i < stop → at i ≡ l
+        → hops (suc n) at i stop ≡ l ∷ hops n at (l .after) stop
     unfolding hops
-    hops-next n i h = rw (lt-ltb i stop h)
+    hops-next n i l h e = rw (lt-ltb i stop h, e)
 
     -- where each hop goes on, enough steps give the same members
     module _ (onward : (i : ℕ) → i < stop → i < at i .after) where
@@ -68,7 +71,7 @@ module _ (at : ℕ → Logged) where
       hops-first i h =
           let e : stop - i ≡ suc (stop - i - 1) = omega arith in
           ap (λ (n : ℕ). hops n at i stop) e
-          ∙ hops-next (stop - i - 1) i h
+          ∙ hops-next (stop - i - 1) i (at i) h refl
           ∙ ap (λ (ls : List Logged). at i ∷ ls)
           (hops-enough (stop - i - 1) (stop - at i .after) (at i .after) (omega (arith, onward i h)) (omega arith))
 

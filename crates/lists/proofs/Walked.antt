@@ -26,6 +26,7 @@ use Rattle.log.specs.Log.{Logged}
 use Rattle.log.specs.Families.{loggedFrom, Forest, none, family, flat, Placed, IsForest}
 use Rattle.log.proofs.Families.{Level}
 use Rattle.log.proofs.Forests.{level-rest, Stands, stands-at, StandsFamily, stands-family}
+use Rattle.lists.proofs.Members.{hops-none, hops-next}
 use Rattle.lists.specs.ByLog.{admissionAt, hops, membersBy, listBy, groupBy, groupAt, firstFault, rowsBy}
 use Rattle.lists.proofs.Finds.{row-by-entry, members-by-entry}
 
@@ -64,20 +65,6 @@ members-family a members rest depth xs p =
       append-assoc (flat members) (flat rest) xs,
       in-members,
     )
-
--- ---- the members by positions
-
--- none, from `stop` on
-hops-end : (at : ℕ → Logged) (n i stop : ℕ) → stop ≤ i → hops n at i stop ≡ []
-unfolding hops
-hops-end at zero i stop h = refl
-hops-end at (suc n) i stop h = rw (le-ltb i stop h)
-
--- before it, the one at the position, then those behind its last descendant
-hops-next : (at : ℕ → Logged) (n i stop : ℕ) (l : Logged) → i < stop → at i ≡ l
-    → hops (suc n) at i stop ≡ l ∷ hops n at (l .after) stop
-unfolding hops
-hops-next at n i stop l h e = rw (lt-ltb i stop h, e)
 
 -- ---- what is said at each position
 
@@ -169,7 +156,7 @@ module _ (entry : ℕ → ℕ → ℕ)
       ≡ membersOutcome g end counts first (membersAt (above + 1) (flat f ++ xs))
   unfolding membersBy membersOutcome memberOutcome
   members-by none above xs i n stop p e s enough last g end counts first =
-      rw (hops-end at n i stop (omega arith), members-end above xs e)
+      rw (hops-none at stop n i (omega arith), members-end above xs e)
   members-by (family a members rest) above xs i zero stop p e s enough last g end counts first = absurd (omega arith)
   members-by (family a members rest) above xs i (suc n) stop p e s enough last g end counts first =
       let here = stands-family entry at a members rest above xs i p e s in
@@ -179,7 +166,7 @@ module _ (entry : ℕ → ℕ → ℕ)
       let in-rest =
       members-by rest above xs next n stop (p .2) e (here .behind) (omega arith) (omega arith) g end more false in
       rw (
-        hops-next at n i stop _ (omega arith) (here .first),
+        hops-next at stop n i _ (omega arith) (here .first),
         members-family a members rest (above + 1) xs p,
         row-of g (a .vendor) (a .code),
         in-rest,

@@ -1,5 +1,5 @@
--- The first position of each entry among the members of a list, which the exchange rules search by. It is kept while the
--- members are judged.
+-- The first position of each entry among the members of a list, which the exchange rules search by. It is kept while
+-- the members are judged.
 use mathlib.Core.Path.{_≡_}
 use Prim.Native.Nat.{ℕ, zero, suc, _-_, min}
 use mathlib.Core.List.{List}
@@ -28,8 +28,8 @@ firstsFrom zero at i stop firsts = firsts
 firstsFrom (suc n) at i stop firsts =
     cond (ltb i stop) (firstsFrom n at (at i .after) stop (noted firsts (at i .entry) i)) firsts
 
--- what judging a list gives, which stands from one position on and before another; after a refusal what `firsts` holds is
--- free
+-- what judging a list gives, which stands from one position on and before another; after a refusal what `firsts` holds
+-- is free
 pub record ListJudged (at : ℕ → Logged) (g : Grammar) (end from to : ℕ) (firsts : List ℕ) (r : Outcome) (after : List ℕ) : Type 0 where
   pub is : r ≡ listBy at g end from to
   pub kept : r ≡ Pass → after ≡ firstsFrom (to - from) at from to firsts

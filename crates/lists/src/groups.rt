@@ -1,5 +1,5 @@
-// The groups of a command in walk order: the rows of each, and beside them what the exchange rules say of it. Theirs come
-// after all rows, so that their first faults are kept.
+// The groups of a command in walk order: the rows of each, and what the exchange rules say of it. Faults of the exchange
+// rules come after those of all rows, so the first of the policies and of the windows are kept.
 ghost use mathlib.Core.Path.{_≡_};
 ghost use Prim.Native.Nat.{_≤_, min};
 ghost use Rattle.rules.specs.Verdict.{orElse};

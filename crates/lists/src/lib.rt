@@ -93,8 +93,8 @@ fn note(firsts: &mut [u16; kinds::ENTRIES], entry: u8, position: u16)
     firsts[place] = least(firsts[place], position);
 }
 
-// The list whose members stand from one position on and before another. The first position of each entry is kept for the
-// exchange rules.
+// The list whose members stand from one position on and before another. The first position of each entry is kept for
+// the exchange rules.
 fn list_outcome(
     log: &[u32; limits::LOG_NUMBERS],
     from: usize,

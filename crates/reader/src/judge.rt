@@ -60,8 +60,8 @@ pub(crate) fn judge_by(
     judge_avps(s, table, log)
 }
 
-// A command judged into a lent log. The table of plain codes is made behind the header's checks, so that a refusal there
-// does not pay for it.
+// A command judged into a lent log. The table of plain codes is made behind the header's checks, so that a refusal
+// there does not pay for it.
 pub(crate) fn judge(s: &[u8], log: &mut [u32; limits::LOG_NUMBERS]) -> Judgement
     ensures { λ r. ⌜ IsJudged (now (s .entry)) (now (log .entry)) r (now (log .exit)) ⌝ }
 {

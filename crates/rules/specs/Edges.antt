@@ -166,8 +166,8 @@ further =
     ∷ case (requestHeader 172 ++ sFront ++ sEnds ++ avp 264 0x40 9 (letter 0x68)) 5009 160 0 264
     ∷ []
 
--- request [2]: 421 behind 414; 421 before 412; 421 behind 414 with 532 missing, which is asked for before, and with 4209
--- missing, which is asked for later; 414 in a group; all three with 4203 = 1; an answer
+-- request [2]: 421 behind 414; 421 before 412; 421 behind 414 with 532 missing, which is asked for before, and with
+-- 4209 missing, which is asked for later; 414 in a group; all three with 4203 = 1; an answer
 unfoldable pub totals : List Case
 totals =
     case (firstRequestOf 224 (provider ++ volumeOf 414 ++ volumeOf 421 ++ numberOfUes) 11) 5008 148 0 421

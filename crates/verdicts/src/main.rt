@@ -34,8 +34,8 @@ fn read_input(buffer: &mut [u8]) -> Input
     Input::Octets { count, last }
 }
 
-// Puts what is to be printed for an input: the listing of the octets that were read. A read that failed is not the end of
-// the input: no octet follows it.
+// Puts what is to be printed for an input: the listing of the octets that were read. A read that failed is not the end
+// of the input: no octet follows it.
 fn put_printed(input: Input, buffer: &[u8], out: &mut [u8; limits::LISTING_ROOM]) -> usize
     requires { ⌜ ReadWhole (length (now buffer)) input ⌝ }
     ensures { λ r. ⌜ Printed input (now (buffer .entry)) (now (out .entry)) r (now (out .exit)) ⌝ }
@@ -46,9 +46,9 @@ fn put_printed(input: Input, buffer: &[u8], out: &mut [u8; limits::LISTING_ROOM]
     }
 }
 
-// The buffer has room for one octet more than the longest book, so that a longer one is seen to be longer. Every listing
-// has octets, so none says that reading failed. A listing that could not be written whole lacks at least the end of its
-// last line, and standard error says so.
+// The buffer has room for one octet more than the longest book, so that a longer one is seen to be longer. Every
+// listing has octets, so none says that reading failed. A listing that could not be written whole lacks at least the
+// end of its last line, and standard error says so.
 fn main() {
     let mut buffer = [0u8; limits::LONGEST_BOOK + 1];
     let mut out = [0u8; limits::LISTING_ROOM];

@@ -1,5 +1,5 @@
--- The depths of a walk's AVPs, and where their data ends: they are no deeper than a group's members, and those of a whole
--- walk are a list with its members.
+-- The depths of a walk's AVPs, and where their data ends: they are no deeper than a group's members, and those of a
+-- whole walk are a list with its members.
 use mathlib.Core.Path.{_≡_, refl, sym, ap, _∙_}
 use mathlib.Core.List.{List, [], _∷_, _++_, append-nil}
 use Prim.Native.Nat.{ℕ, zero, suc, _+_, _≤_}

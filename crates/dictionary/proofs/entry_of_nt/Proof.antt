@@ -1,32 +1,36 @@
--- `dictionary::entry_of_nt` meets its contract: an arm knows the code, and `_` that no entry has it.
-use mathlib.Core.Path.{refl, sym}
-use Prim.Native.Nat.{ℕ}
-use lib.Dec.{leb}
-use borrow.Author.Tests.{le-leb}
+-- `dictionary::entry_of_nt` meets its contract.
+use borrow.Author.Needs.{needs}
+use mathlib.Core.Path.{sym}
+use Prim.Native.Nat.{_+_}
+use native.Mathlib.Omega.{arith}
 use Rattle.rules.specs.Dictionary.{dictionary}
 use Rattle.rules.specs.Header.{vendor3GPP}
-use Rattle.rules.proofs.Names.{answer-at}
-use Rattle.dictionary.specs.Entries.{numberWhere, entryOf, leastNtCode}
-use Rattle.dictionary.proofs.Entries.{absent-code}
+use Rattle.dictionary.specs.Entries.{leastNtCode, ntCodes}
+use Rattle.dictionary.proofs.Table.{beyond}
 use Rattle.dictionary.proofs.entry_of_nt.Statement.{statement}
 use Rattle.dictionary.proofs.entry_of_nt.Tie as tie
 
-abbrev says : ℕ → ℕ
-says = entryOf dictionary vendor3GPP
+sub-place : tie.Need-sub-place
+sub-place c = search needs
+
+cast-place : tie.Need-cast-place
+cast-place c = search needs
+
+returns : tie.Need-returns
+unfolding dictionary
+returns c = sym (beyond vendor3GPP leastNtCode (leastNtCode + ntCodes) tt (c .before .args .code) (omega arith))
+
+nt-table-requires : tie.Need-nt-table-requires
+nt-table-requires c κs = search needs
+
+array-read-result : tie.Need-array-read-result
+array-read-result c = search needs
+
+returns-2 : tie.Need-returns-2
+returns-2 c =
+    let b = c .before .before in
+    c .nt-table .ensures .finds (b .args .code) (b .pre) (omega arith)
 
 pub entry-of-nt-spec : {M : Type 1} → statement M
-unfolding numberWhere dictionary
 entry-of-nt-spec =
-    tie.close
-    (tie.spec
-    (λ c. answer-at says (c .match .keys1) refl refl)
-    (λ c. answer-at says (c .match .keys2) refl refl)
-    (λ c. answer-at says (c .match .keys3) refl refl)
-    (λ c. answer-at says (c .match .keys4) refl refl)
-    (λ c. answer-at says (c .match .keys5) refl refl)
-    (λ c. answer-at says (c .match .keys6) refl refl)
-    (λ c. answer-at says (c .match .keys7) refl refl)
-    (λ c. answer-at says (c .match .keys8) refl refl)
-    (λ c. answer-at says (c .match .keys9) refl refl)
-    (λ c. sym
-    (absent-code (leb leastNtCode) dictionary vendor3GPP _ (le-leb leastNtCode _ (c .before .pre)) (c .match .rest))))
+    tie.close (tie.spec sub-place cast-place returns nt-table-requires array-read-result returns-2)
