@@ -1,3 +1,3 @@
--- The dictionary's entries by their numbers, and the table of plain codes.
+-- The dictionary's entries by their numbers, and the tables of codes that lead to them.
 pub mod Entries
 pub mod Table

@@ -1,5 +1,6 @@
 -- Request [6]: a table of plain codes, AVP codes without vendor from 0 to 650, which leads each to the number of its
--- entry. What a table says is defined for whatever numbers it holds; `IsTable` is the rule of the right one.
+-- entry. What a table says is defined for whatever numbers it holds; `IsTable` is the rule of the right one, and
+-- `IsNtTable` that of the table of 3GPP's codes for Nt alone, which is not lent.
 use mathlib.Core.Path.{_≡_}
 use Prim.Native.Nat.{ℕ, zero, suc, _+_, _-_, _≤_, _<_}
 use mathlib.Core.List.{List, [], _∷_, _++_}

@@ -1,6 +1,6 @@
 // The AVP kinds of document 01's dictionary, in the order of its entries: Vendor-Id, AVP code and, where it is fixed,
 // the width of the data, as constants of each kind; the number of its entry, which is its position; and the facts of
-// the entry in one number. The dictionary, the rows and the exchange rules name an AVP by these alone.
+// the entry in one number. The code names an AVP by these alone; a place of a table has the kind as a comment.
 use rules::limits::NO_VENDOR;
 use rules::limits::VENDOR_3GPP;
 
@@ -406,7 +406,7 @@ impl Drmp {
 
     pub const ENTRY: u8 = 28;
 
-    pub const FACTS: u8 = ONE_OCTET * Drmp::WIDTH as u8;
+    pub const FACTS: u8 = M_FREE + ONE_OCTET * Drmp::WIDTH as u8;
 }
 
 // No vendor, M free: any length
@@ -460,7 +460,7 @@ impl FeatureListId {
 
     pub const ENTRY: u8 = 32;
 
-    pub const FACTS: u8 = ONE_OCTET * FeatureListId::WIDTH as u8;
+    pub const FACTS: u8 = M_FREE + ONE_OCTET * FeatureListId::WIDTH as u8;
 }
 
 pub struct FeatureList;
@@ -474,7 +474,7 @@ impl FeatureList {
 
     pub const ENTRY: u8 = 33;
 
-    pub const FACTS: u8 = ONE_OCTET * FeatureList::WIDTH as u8;
+    pub const FACTS: u8 = M_FREE + ONE_OCTET * FeatureList::WIDTH as u8;
 }
 
 // 3GPP, M free: any length

@@ -1,5 +1,6 @@
-// 01, Dictionary: the number of a name's entry, by a search or, for plain codes, through the constant table of request
-// [6]; and what an entry says. Each arm of a `match` stands for one kind, by its constants.
+// 01, Dictionary: the number of a name's entry, for plain codes through the constant table of request [6], for 3GPP's
+// through a table of nine numbers or by a `match`; and what an entry says. Each arm of a `match` stands for one kind, by
+// its constants.
 ghost use mathlib.Core.Path.{_≡_};
 ghost use mathlib.Core.Bool.{cond};
 ghost use lib.Dec.{eqb};
@@ -327,7 +328,7 @@ fn under(vendor: u32, own: u32, grammar: Grammar) -> Members
 }
 
 // The rows that the members of a name's group go by. It looks at groups alone, so it is shorter than the search.
-pub fn members(vendor: u32, code: u32) -> Members
+fn members(vendor: u32, code: u32) -> Members
     ensures { λ r. ⌜ Answers rowsNumber (membersOf (find dictionary vendor code)) r ⌝ }
 {
     match code {

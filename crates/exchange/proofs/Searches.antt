@@ -11,7 +11,7 @@ use Rattle.rules.specs.declared.Found.{Found}
 use Rattle.rules.specs.declared.Found.the-variants.{At, Nothing}
 use Rattle.rules.specs.Avp.{named}
 use Rattle.rules.specs.Search.{firstFrom}
-use Rattle.rules.proofs.Searches.{first-above, first-here, first-later, first-none}
+use Rattle.rules.proofs.Searches.{first-here, first-later, first-none}
 use Rattle.log.specs.Log.{avpOf, avpsIn}
 use Rattle.log.proofs.Log.{avps-cons, avps-end}
 use Rattle.rules.specs.Search.{isAt}
@@ -42,30 +42,25 @@ found-at f count i h e = record { is = sym e; used = λ j p. let q : i ≡ j = c
 pub found-nothing : (f : Found) (count : ℕ) → f ≡ Nothing → FoundBelow f count Nothing
 found-nothing f count e = record { is = sym e; used = λ j p. let z : _≡_ {A = ℕ} 0 1 = cc in absurd (omega arith) }
 
--- what a search from a position of the log on gives
-abbrev pub firstIn : List ℕ → ℕ → ℕ → ℕ → ℕ → ℕ → ℕ → Found
-firstIn log count floor depth vendor code i = firstFrom i floor depth (drop i (avpsIn log count)) vendor code
+-- what a search of the command's own list from a position of the log on gives
+abbrev pub firstIn : List ℕ → ℕ → ℕ → ℕ → ℕ → Found
+firstIn log count vendor code i = firstFrom i 0 1 (drop i (avpsIn log count)) vendor code
 
 -- a search from `from` on that has come to position i
-module _ (log : List ℕ) (count floor depth vendor code from i : ℕ) (room : count ≤ 256)
-    (left : firstIn log count floor depth vendor code i ≡ firstIn log count floor depth vendor code from) where
-  pub found-end : count ≤ i → FoundBelow (firstIn log count floor depth vendor code from) count Nothing
-  found-end h = found-nothing _ count (sym left ∙ rw (avps-end log count i room h) (first-none i floor depth vendor code))
+module _ (log : List ℕ) (count vendor code from i : ℕ) (room : count ≤ 256)
+    (left : firstIn log count vendor code i ≡ firstIn log count vendor code from) where
+  pub found-end : count ≤ i → FoundBelow (firstIn log count vendor code from) count Nothing
+  found-end h = found-nothing _ count (sym left ∙ rw (avps-end log count i room h) (first-none i 0 1 vendor code))
 
-  module _ (a : Avp) (e : a ≡ avpOf log i) (h : i < count) where
-    next : firstIn log count floor depth vendor code from
-        ≡ firstFrom i floor depth (a ∷ drop (i + 1) (avpsIn log count)) vendor code
+  module _ (a : Avp) (e : a ≡ avpOf log i) (h : i < count) (b : Bool) (t : b ≡ isAt a 1 vendor code) where
+    next : firstIn log count vendor code from ≡ firstFrom i 0 1 (a ∷ drop (i + 1) (avpsIn log count)) vendor code
     next = sym left ∙ rw (avps-cons log count i room h, e)
 
-    pub found-above : a .depth < floor → FoundBelow (firstIn log count floor depth vendor code from) count Nothing
-    found-above k = found-nothing _ count (next ∙ first-above i floor depth a (drop (i + 1) (avpsIn log count)) vendor code k)
+    pub found-here : b ≡ true → FoundBelow (firstIn log count vendor code from) count (At i)
+    found-here p =
+        found-at _ count i h
+        (next ∙ first-here i 0 1 a (drop (i + 1) (avpsIn log count)) vendor code (omega arith) (sym t ∙ p))
 
-    module _ (k : floor ≤ a .depth) (b : Bool) (t : b ≡ isAt a depth vendor code) where
-      pub found-here : b ≡ true → FoundBelow (firstIn log count floor depth vendor code from) count (At i)
-      found-here p =
-          found-at _ count i h (next ∙ first-here i floor depth a (drop (i + 1) (avpsIn log count)) vendor code k (sym t ∙ p))
-
-      pub left-later : b ≡ false
-          → firstIn log count floor depth vendor code (i + 1) ≡ firstIn log count floor depth vendor code from
-      left-later p =
-          sym (next ∙ first-later i floor depth a (drop (i + 1) (avpsIn log count)) vendor code k (sym t ∙ p))
+    pub left-later : b ≡ false → firstIn log count vendor code (i + 1) ≡ firstIn log count vendor code from
+    left-later p =
+        sym (next ∙ first-later i 0 1 a (drop (i + 1) (avpsIn log count)) vendor code (omega arith) (sym t ∙ p))

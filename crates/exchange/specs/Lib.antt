@@ -1,3 +1,3 @@
--- What the private functions promise beside the definitions of document 01.
+-- What the functions promise beside the definitions of document 01.
 pub mod Positions
 pub mod Firsts

@@ -1,11 +1,12 @@
 // 01, Exchange rules of an answer: its result, and its transfer policies.
 ghost use mathlib.Core.Path.{_≡_};
-ghost use Prim.Native.Nat.{_≤_};
+ghost use Prim.Native.Nat.{_≤_, min};
+ghost use Rattle.rules.specs.Verdict.{verdictOf, Answers};
 ghost use Rattle.rules.specs.Exchange.{resultOutcome, policiesOutcome, policyIn, answerOutcome};
 ghost use Rattle.rules.specs.Walk.{mostAvps};
 ghost use Rattle.log.specs.Log.{avpsIn};
 ghost use Rattle.exchange.specs.Firsts.{findIn};
-use crate::search::first;
+use crate::search::next_own;
 use crate::search::require;
 use crate::search::search;
 use avp::member_fault;
@@ -57,12 +58,10 @@ fn policies_outcome(
     let Outcome::Pass = reference else {
         return reference;
     };
-    let Found::At(_) = first(
+    let Found::At(_) = next_own(
         log,
         i + 1,
         count,
-        0,
-        1,
         TransferPolicy::VENDOR,
         TransferPolicy::CODE,
     ) else {
@@ -74,13 +73,14 @@ fn policies_outcome(
 // A transfer policy by the first positions of its members: it ends at `end`, and holds a Time-Window and a
 // Rating-Group.
 pub fn policy_outcome(firsts: &[u16; kinds::ENTRIES], count: usize, end: u32) -> Outcome
-    ensures { λ r. ⌜ r ≡ policyIn (findIn (now (firsts .entry)) count) end ⌝ }
+    ensures { λ r. ⌜ Answers verdictOf (policyIn (findIn (now (firsts .entry)) (min count mostAvps)) end) r ⌝ }
 {
-    let window = require(firsts, count, end, TimeWindow::ENTRY);
+    let avps = log::used(count);
+    let window = require(firsts, avps, end, TimeWindow::ENTRY);
     let Outcome::Pass = window else {
         return window;
     };
-    require(firsts, count, end, RatingGroup::ENTRY)
+    require(firsts, avps, end, RatingGroup::ENTRY)
 }
 
 // The rules of an answer; `policies` is what is said of each policy.

@@ -2,6 +2,7 @@
 // position of each entry in a list. A search for an AVP is in `search`, the rules in the modules of their names.
 ghost use mathlib.Core.Path.{_≡_};
 ghost use Prim.Native.Nat.{_≤_, min};
+ghost use Rattle.rules.specs.Verdict.{verdictOf, Answers};
 ghost use Rattle.rules.specs.Exchange.{byCommand, exchangeBy};
 ghost use Rattle.rules.specs.Walk.{mostAvps};
 ghost use Rattle.log.specs.Log.{avpsIn};
@@ -47,7 +48,7 @@ pub fn judge(
     policies: Outcome,
     windows: Outcome,
 ) -> Outcome
-    ensures { λ r. ⌜ r ≡ exchangeBy (findIn (now (firsts .entry)) (min count mostAvps)) request (avpsIn (now (log .entry)) count) (now (s .entry)) end policies windows ⌝ }
+    ensures { λ r. ⌜ Answers verdictOf (exchangeBy (findIn (now (firsts .entry)) (min count mostAvps)) request (avpsIn (now (log .entry)) count) (now (s .entry)) end policies windows) r ⌝ }
 {
     let avps = log::used(count);
     let outcome = by_command(request, s, log, firsts, avps, end, policies);

@@ -1,5 +1,5 @@
-// Searches: for the first AVP of a kind in the command's own list, by the positions that the row checks kept; for any
-// other, in one pass over the log; and what is read at a position that was found.
+// Searches: for the first AVP of a kind in a list, by the positions that the row checks kept; for a second one in the
+// command's own list, in a pass over the log; and what is read at a position that was found.
 ghost use mathlib.Core.Path.{_≡_};
 ghost use Prim.Native.Nat.{_≤_};
 ghost use lib.ListN.{drop, getD};
@@ -19,20 +19,14 @@ use rules::Found;
 use rules::Outcome;
 use rules::limits;
 
-pub(crate) fn wide(x: u32) -> usize
+fn wide(x: u32) -> usize
     ensures { λ r. ⌜ IsNumber 4 x r ⌝ }
 {
     x as usize
 }
 
 // Whether the AVP at a position stands at a depth with a vendor and code.
-pub(crate) fn is_at(
-    log: &[u32; limits::LOG_NUMBERS],
-    i: usize,
-    depth: usize,
-    vendor: u32,
-    code: u32,
-) -> bool
+fn is_at(log: &[u32; limits::LOG_NUMBERS], i: usize, depth: usize, vendor: u32, code: u32) -> bool
     ensures { λ r. ⌜ r ≡ isAt (avpOf (now (log .entry)) i) depth vendor code ⌝ }
 {
     if log::is_named(log, i, vendor, code) {
@@ -41,25 +35,20 @@ pub(crate) fn is_at(
     false
 }
 
-// The first AVP from a position on at a depth with a vendor and code, before any AVP above the depth `floor`.
-pub(crate) fn first(
+// The first AVP of the command's own list from a position on with a vendor and code.
+pub(crate) fn next_own(
     log: &[u32; limits::LOG_NUMBERS],
     from: usize,
     count: usize,
-    floor: usize,
-    depth: usize,
     vendor: u32,
     code: u32,
 ) -> Found
     requires { ⌜ count ≤ mostAvps ⌝ }
-    ensures { λ r. ⌜ FoundBelow (firstFrom from floor depth (drop from (avpsIn (now (log .entry)) count)) vendor code) count r ⌝ }
+    ensures { λ r. ⌜ FoundBelow (firstFrom from 0 1 (drop from (avpsIn (now (log .entry)) count)) vendor code) count r ⌝ }
 {
     let mut i = from;
     while i < count {
-        if wide(log::depth_at(log, i)) < floor {
-            return Found::Nothing;
-        }
-        if is_at(log, i, depth, vendor, code) {
+        if is_at(log, i, 1, vendor, code) {
             return Found::At(i);
         }
         i += 1;
@@ -83,7 +72,7 @@ fn first_of(firsts: &[u16], entry: usize) -> usize
     position_of(firsts[entry])
 }
 
-// The first AVP of an entry's kind in the command's own list.
+// The first AVP of an entry's kind in a list.
 pub(crate) fn search(firsts: &[u16; kinds::ENTRIES], count: usize, entry: u8) -> Found
     ensures { λ r. ⌜ FoundBelow (findIn (now (firsts .entry)) count (vendorOf dictionary entry) (codeOf dictionary entry)) count r ⌝ }
 {
@@ -104,7 +93,7 @@ pub(crate) fn present(found: Found, end: u32, vendor: u32, code: u32) -> Outcome
     Outcome::Pass
 }
 
-// An AVP of an entry's kind that the command's own list must have; `end` is the list's end.
+// An AVP of an entry's kind that a list must have; `end` is the list's end.
 pub(crate) fn require(firsts: &[u16; kinds::ENTRIES], count: usize, end: u32, entry: u8) -> Outcome
     ensures { λ r. ⌜ r ≡ requireIn (findIn (now (firsts .entry)) count) end (vendorOf dictionary entry) (codeOf dictionary entry) ⌝ }
 {

@@ -1,6 +1,7 @@
 // 01, Exchange rules: a time window.
 ghost use mathlib.Core.Path.{_≡_};
 ghost use Prim.Native.Nat.{min};
+ghost use Rattle.rules.specs.Verdict.{verdictOf, Answers};
 ghost use Rattle.rules.specs.Exchange.{timesBy, windowIn};
 ghost use Rattle.rules.specs.Walk.{mostAvps};
 ghost use Rattle.log.specs.Log.{avpsIn};
@@ -47,7 +48,7 @@ pub fn window_outcome(
     count: usize,
     end: u32,
 ) -> Outcome
-    ensures { λ r. ⌜ r ≡ windowIn (findIn (now (firsts .entry)) (min count mostAvps)) (avpsIn (now (log .entry)) count) (now (s .entry)) end ⌝ }
+    ensures { λ r. ⌜ Answers verdictOf (windowIn (findIn (now (firsts .entry)) (min count mostAvps)) (avpsIn (now (log .entry)) count) (now (s .entry)) end) r ⌝ }
 {
     let avps = log::used(count);
     let Found::At(from) = search(firsts, avps, TransferStartTime::ENTRY) else {

@@ -23,7 +23,7 @@ use Rattle.rules.specs.RowChecks.{rowsOutcome}
 use Rattle.rules.specs.Search.{search, member}
 use Rattle.rules.specs.Exchange.{direction, volume, totalAlone, firstRequest, laterRequest, requestBy, requestOutcome}
 use Rattle.rules.specs.Exchange.{resultOutcome, policiesBy, policiesOutcome, answerOutcome, byCommand, exchangeBy}
-use Rattle.rules.specs.Exchange.{policyIn, policyAt as policyOf, eachPolicy, windowIn, windowAt as windowOf, eachWindow}
+use Rattle.rules.specs.Exchange.{policyIn, policyAt, eachPolicy, windowIn, windowAt, eachWindow}
 use Rattle.rules.specs.Exchange.{exchangeOutcome}
 use Rattle.rules.specs.Command.{commandGrammar}
 use Rattle.dictionary.specs.Entries.{numberWhere, entryOf}
@@ -33,7 +33,7 @@ use Rattle.log.proofs.Forests.{Stands, stands-at}
 use Rattle.exchange.specs.Firsts.{findIn}
 use Rattle.lists.specs.ByLog.{firstFault}
 use Rattle.lists.specs.Firsts.{noFirsts, firstsFrom}
-use Rattle.lists.specs.Exchanges.{firstsAt, hasEntry, policyAt, windowAt, listsBy}
+use Rattle.lists.specs.Exchanges.{firstsAt, hasEntry, policyLogged, windowLogged, listsBy}
 use Rattle.lists.proofs.Finds.{IsKnown, known-only, first-among, find-same}
 use Rattle.lists.proofs.Walked.{FamilyAt, each-of, walked-rows}
 use Rattle.lists.proofs.Firsts.{first-positions, member-positions}
@@ -120,14 +120,14 @@ module _ (ys : List Avp) (few : length ys ≤ mostAvps) (at : ℕ → Logged) wh
     policy-by false true end e = refl
     policy-by false false end e = refl
 
-    policy-at : policyAt at (length ys) i ≡ policyOf ys i a
-    unfolding policyAt dictionary numberWhere
+    policy-at : policyLogged at (length ys) i ≡ policyAt ys i a
+    unfolding policyLogged dictionary numberWhere
     policy-at =
         rw (has-name 10415 4207 tt, is-logged, here .here)
         (policy-by (named a 10415 4207) (eqb (a .depth) 1) (endOf a) refl)
 
-    window-at : (s : List ℕ) → windowAt at ys s (length ys) i ≡ windowOf ys s i a
-    unfolding windowAt dictionary numberWhere
+    window-at : (s : List ℕ) → windowLogged at ys s (length ys) i ≡ windowAt ys s i a
+    unfolding windowLogged dictionary numberWhere
     window-at s =
         rw (
           has-name 10415 4204 tt,
@@ -138,16 +138,16 @@ module _ (ys : List Avp) (few : length ys ≤ mostAvps) (at : ℕ → Logged) wh
 
   -- all of them
   module _ (forest : IsForest 1 ys) (stands : Stands (entryOf dictionary) at 0 ys) where
-    policies-of : firstFault (policyAt at (length ys)) (length ys) 0 ≡ eachPolicy ys 0 ys
+    policies-of : firstFault (policyLogged at (length ys)) (length ys) 0 ≡ eachPolicy ys 0 ys
     unfolding eachPolicy
     policies-of =
-        each-of (entryOf dictionary) at ys (policyAt at (length ys)) (λ i a xs. policyOf ys i a) (eachPolicy ys)
+        each-of (entryOf dictionary) at ys (policyLogged at (length ys)) (λ i a xs. policyAt ys i a) (eachPolicy ys)
         (λ i. refl) (λ i a xs. refl) policy-at forest stands
 
-    windows-of : (s : List ℕ) → firstFault (windowAt at ys s (length ys)) (length ys) 0 ≡ eachWindow ys s 0 ys
+    windows-of : (s : List ℕ) → firstFault (windowLogged at ys s (length ys)) (length ys) 0 ≡ eachWindow ys s 0 ys
     unfolding eachWindow
     windows-of s =
-        each-of (entryOf dictionary) at ys (windowAt at ys s (length ys)) (λ i a xs. windowOf ys s i a)
+        each-of (entryOf dictionary) at ys (windowLogged at ys s (length ys)) (λ i a xs. windowAt ys s i a)
         (eachWindow ys s) (λ i. refl) (λ i a xs. refl)
         (λ a members rest above xs i here. window-at a members rest above xs i here s) forest stands
 
@@ -161,7 +161,7 @@ module _ (ys : List Avp) (few : length ys ≤ mostAvps) (at : ℕ → Logged) wh
 
     exchange-of : (request : Bool) (s : List ℕ) (end : ℕ)
         → exchangeBy (findIn (firstsFrom (length ys) at 0 (length ys) noFirsts) (length ys)) request ys s end
-        (firstFault (policyAt at (length ys)) (length ys) 0) (firstFault (windowAt at ys s (length ys)) (length ys) 0)
+        (firstFault (policyLogged at (length ys)) (length ys) 0) (firstFault (windowLogged at ys s (length ys)) (length ys) 0)
         ≡ exchangeOutcome request ys s end
     unfolding exchangeBy
     exchange-of request s end =

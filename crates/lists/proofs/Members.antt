@@ -29,7 +29,7 @@ use Rattle.log.specs.Log.{Logged}
 use Rattle.exchange.specs.Firsts.{findIn}
 use Rattle.lists.specs.ByLog.{admissionAt, hops, membersBy, listBy, groupAt, firstFault, rowsBy}
 use Rattle.lists.specs.Firsts.{noFirsts, firstsFrom}
-use Rattle.lists.specs.Exchanges.{policyAt, windowAt, listsBy}
+use Rattle.lists.specs.Exchanges.{policyLogged, windowLogged, listsBy}
 
 -- what is left of a list from position i on, with the counts so far
 abbrev pub leftBy : (ℕ → Logged) → ℕ → Grammar → ℕ → List ℕ → Bool → ℕ → Outcome
@@ -132,12 +132,12 @@ module _ (at : ℕ → Logged) (count i : ℕ) (none : membersOf (definitionAt d
   pub no-rows : Pass ≡ groupAt at count i
   no-rows = rw none
 
-  pub no-policy : Pass ≡ policyAt at count i
-  unfolding dictionary numberWhere definitionAt policyAt
+  pub no-policy : Pass ≡ policyLogged at count i
+  unfolding dictionary numberWhere definitionAt policyLogged
   no-policy = rw (no-entry (entryOf dictionary vendor3GPP 4207) TransferPolicy refl)
 
-  pub no-window : (xs : List Avp) (s : List ℕ) → Pass ≡ windowAt at xs s count i
-  unfolding dictionary numberWhere definitionAt windowAt
+  pub no-window : (xs : List Avp) (s : List ℕ) → Pass ≡ windowLogged at xs s count i
+  unfolding dictionary numberWhere definitionAt windowLogged
   no-window xs s = rw (no-entry (entryOf dictionary vendor3GPP 4204) TimeWindow refl)
 
 -- ---- the command's list, then the groups, then the exchange rules
@@ -155,7 +155,7 @@ module _ (at : ℕ → Logged) (xs : List Avp) (flags : ℕ) (s : List ℕ) (end
 
     pub rows-passed : groups ≡ Pass
         → exchangeBy (findIn (firstsFrom count at 0 count noFirsts) count) (isRequest flags) xs s end
-        (firstFault (policyAt at count) count 0) (firstFault (windowAt at xs s count) count 0)
+        (firstFault (policyLogged at count) count 0) (firstFault (windowLogged at xs s count) count 0)
         ≡ listsBy at xs flags s end count
     unfolding listsBy rowsBy
     rows-passed e = rw (sym is ∙ passed, sym all ∙ e)

@@ -42,12 +42,12 @@ abbrev pub listBy : (ℕ → Logged) → Grammar → ℕ → ℕ → ℕ → Out
 listBy at g end i stop = membersBy g end noneMet true (hops (stop - i) at i stop)
 
 -- behind the last descendant of the AVP at position i of `count`
-abbrev pub stopOf : (ℕ → Logged) → ℕ → ℕ → ℕ
-stopOf at count i = min (at i .after) count
+abbrev pub familyEnd : (ℕ → Logged) → ℕ → ℕ → ℕ
+familyEnd at count i = min (at i .after) count
 
 -- the AVP at position i of `count`: where it is a group, its list
 abbrev pub groupBy : (ℕ → Logged) → ℕ → ℕ → Members → Outcome
-groupBy at count i (Under g) = listBy at g (endOf (at i .avp)) (i + 1) (stopOf at count i)
+groupBy at count i (Under g) = listBy at g (endOf (at i .avp)) (i + 1) (familyEnd at count i)
 groupBy at count i NoMembers = Pass
 
 -- what is said at a position by its entry

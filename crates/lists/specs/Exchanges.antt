@@ -21,12 +21,12 @@ use Rattle.dictionary.specs.Entries.{entryOf}
 use Rattle.log.specs.Log.{Logged, loggedOf, avpsIn}
 use Rattle.exchange.specs.Firsts.{findIn}
 use Rattle.lists.specs.declared.groups.Groups.{Groups}
-use Rattle.lists.specs.ByLog.{firstFault, stopOf, groupAt, rowsBy}
+use Rattle.lists.specs.ByLog.{firstFault, familyEnd, groupAt, rowsBy}
 use Rattle.lists.specs.Firsts.{noFirsts, firstsFrom}
 
 -- the first positions among the members of the group at position i of `count`
 abbrev pub firstsAt : (ℕ → Logged) → ℕ → ℕ → List ℕ
-firstsAt at count i = firstsFrom (stopOf at count i - (i + 1)) at (i + 1) (stopOf at count i) noFirsts
+firstsAt at count i = firstsFrom (familyEnd at count i - (i + 1)) at (i + 1) (familyEnd at count i) noFirsts
 
 -- an AVP has the entry of a vendor and code
 abbrev pub hasEntry : Logged → ℕ → ℕ → Bool
@@ -42,24 +42,24 @@ abbrev pub asWindow : (ℕ → ℕ → Found) → List Avp → List ℕ → Logg
 asWindow find xs s l = cond (hasEntry l vendor3GPP 4204) (windowIn find xs s (endOf (l .avp))) Pass
 
 -- of the AVP at position i of `count`
-unfoldable pub policyAt : (ℕ → Logged) → ℕ → ℕ → Outcome
-policyAt at count i = asPolicy (findIn (firstsAt at count i) count) (at i)
+unfoldable pub policyLogged : (ℕ → Logged) → ℕ → ℕ → Outcome
+policyLogged at count i = asPolicy (findIn (firstsAt at count i) count) (at i)
 
-unfoldable pub windowAt : (ℕ → Logged) → List Avp → List ℕ → ℕ → ℕ → Outcome
-windowAt at xs s count i = asWindow (findIn (firstsAt at count i) count) xs s (at i)
+unfoldable pub windowLogged : (ℕ → Logged) → List Avp → List ℕ → ℕ → ℕ → Outcome
+windowLogged at xs s count i = asWindow (findIn (firstsAt at count i) count) xs s (at i)
 
 -- what judging the groups gives: the row checks, and where these pass, the first faults of policies and of windows
 pub record GroupsJudged (at : ℕ → Logged) (xs : List Avp) (s : List ℕ) (count : ℕ) (r : Groups) : Type 0 where
   pub rows : r .rows ≡ firstFault (groupAt at count) count 0
-  pub policies : r .rows ≡ Pass → r .policies ≡ firstFault (policyAt at count) count 0
-  pub windows : r .rows ≡ Pass → r .windows ≡ firstFault (windowAt at xs s count) count 0
+  pub policies : r .rows ≡ Pass → r .policies ≡ firstFault (policyLogged at count) count 0
+  pub windows : r .rows ≡ Pass → r .windows ≡ firstFault (windowLogged at xs s count) count 0
 
 -- the rows of all lists, then the exchange rules, of the command `s` with these command flags, whose list ends at `end`
 unfoldable pub listsBy : (ℕ → Logged) → List Avp → ℕ → List ℕ → ℕ → ℕ → Outcome
 listsBy at xs flags s end count =
     orElse (rowsBy at (commandGrammar flags) end count)
     (exchangeBy (findIn (firstsFrom count at 0 count noFirsts) count) (isRequest flags) xs s end
-    (firstFault (policyAt at count) count 0) (firstFault (windowAt at xs s count) count 0))
+    (firstFault (policyLogged at count) count 0) (firstFault (windowLogged at xs s count) count 0))
 
 -- by a log with so many AVPs, above 256 read as 256
 abbrev pub listsIn : ℕ → List ℕ → List ℕ → ℕ → ℕ → Outcome

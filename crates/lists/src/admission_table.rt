@@ -5,25 +5,22 @@ ghost use Rattle.lists.specs.Tables.{AdmissionTable};
 use crate::places;
 use dictionary::kinds;
 
-// A place for each entry.
-pub(crate) const PLACES: usize = kinds::NO_ENTRY as usize;
+pub(crate) const NUMBERS: usize = places::LISTS * kinds::ENTRIES;
 
-pub(crate) const NUMBERS: usize = places::LISTS * PLACES;
-
-// The marks, multiples of `MARK`: ! first and once, 1 once, ? at most once, * any number. By 32 rows numbers are left
-// that are no mark's; where none is, the compiled match on the mark is a jump through a table, which is slower.
+// The marks, multiples of `MARK`: ! first and once, 1 once, ? at most once, * any number. Multiples of 32 leave numbers
+// above the last mark; with multiples of 64 the compiled match on the mark is a jump through a table, which is slower.
 pub(crate) const MARK: u8 = 32;
 
 const FIRST: u8 = 0;
 
-const ONCE: u8 = 32;
+const ONCE: u8 = MARK;
 
-const AT_MOST_ONCE: u8 = 64;
+const AT_MOST_ONCE: u8 = 2 * MARK;
 
-const ANY_NUMBER: u8 = 96;
+const ANY_NUMBER: u8 = 3 * MARK;
 
 // No row of the list names the entry.
-const NO_ROW: u8 = 24;
+const NO_ROW: u8 = places::ROW_PLACES as u8;
 
 // Behind each number stands the kind of the entry.
 const TABLE: [u8; NUMBERS] = [

@@ -47,7 +47,7 @@ pub(crate) fn row_of(
     if kinds::NO_ENTRY <= entry {
         return Admission::NoRow;
     }
-    let place = places::list_index(grammar) * admission_table::PLACES + entry as usize;
+    let place = places::list_index(grammar) * kinds::ENTRIES + entry as usize;
     admission_in(table[place])
 }
 

@@ -21,7 +21,7 @@ use rules::Members;
 use rules::Outcome;
 use rules::limits;
 
-fn lesser(a: usize, b: usize) -> usize
+fn least(a: usize, b: usize) -> usize
     ensures { λ r. ⌜ r ≡ min a b ⌝ }
 {
     if b < a {
@@ -46,6 +46,7 @@ fn with_policy(
     firsts: &[u16; kinds::ENTRIES],
     count: usize,
 ) -> Outcome
+    requires { ⌜ count ≤ mostAvps ⌝ }
     ensures { λ r. ⌜ r ≡ orElse before (asPolicy (findIn (now (firsts .entry)) count) (loggedOf (now (log .entry)) position)) ⌝ }
 {
     let Outcome::Pass = before else {
@@ -101,7 +102,7 @@ pub(crate) fn groups_outcome(
         let Members::Under(grammar) = dictionary::members_of(log::entry_at(log, position)) else {
             continue;
         };
-        let to = lesser(log::after_at(log, position), count);
+        let to = least(log::after_at(log, position), count);
         let end = log::data_end(log, position);
         let mut firsts = no_firsts();
         let outcome = list_outcome(log, i, to, admissions, rows, grammar, end, &mut firsts);

@@ -5,6 +5,7 @@
 ghost use mathlib.Core.Path.{_≡_};
 ghost use mathlib.Core.Bool.{cond};
 ghost use Prim.Native.Nat.{_≤_, min};
+ghost use Rattle.rules.specs.Verdict.{verdictOf, Answers};
 ghost use Rattle.rules.specs.Rows.{admitsOthers};
 ghost use Rattle.rules.specs.RowChecks.{countedAt, memberFault};
 ghost use Rattle.rules.specs.Walk.{mostAvps};
@@ -41,8 +42,8 @@ fn gain(k: usize, row: usize) -> u16
     0
 }
 
-// The row counts with one more member of a row. Every place is stored, since one store of two octets would hold up the
-// copy of them all that follows.
+// The row counts with one more member of a row. Every place is stored: a copy of the whole array waits for a store of
+// one count right before it.
 fn counted(counts: [u16; places::ROW_PLACES], row: usize) -> [u16; places::ROW_PLACES]
     requires { ⌜ HasRoom counts ⌝ }
     ensures { λ r. ⌜ r ≡ countedAt counts row ⌝ }
@@ -82,7 +83,7 @@ fn no_firsts() -> [u16; kinds::ENTRIES]
     [limits::MOST_AVPS as u16; kinds::ENTRIES]
 }
 
-// Keeps the first position of an entry, with a member at a position.
+// Keeps the first position of an entry, with a member at a position; a number that is no entry's has no place.
 fn note(firsts: &mut [u16; kinds::ENTRIES], entry: u8, position: u16)
     ensures { λ _. ⌜ now (firsts .exit) ≡ noted (now (firsts .entry)) entry position ⌝ }
 {
@@ -154,7 +155,7 @@ pub fn judge(
     count: usize,
     end: u32,
 ) -> Outcome
-    ensures { λ r. ⌜ r ≡ listsIn flags (now (s .entry)) (now (log .entry)) end count ⌝ }
+    ensures { λ r. ⌜ Answers verdictOf (listsIn flags (now (s .entry)) (now (log .entry)) end count) r ⌝ }
 {
     let admissions = admission_table::table();
     let rows = row_table::table();

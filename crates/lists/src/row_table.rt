@@ -11,11 +11,11 @@ pub(crate) const MARK: u8 = 64;
 
 const FIRST: u8 = 0;
 
-const ONCE: u8 = 64;
+const ONCE: u8 = MARK;
 
-pub(crate) const AT_MOST_ONCE: u8 = 128;
+pub(crate) const AT_MOST_ONCE: u8 = 2 * MARK;
 
-const ANY_NUMBER: u8 = 192;
+const ANY_NUMBER: u8 = 3 * MARK;
 
 // Behind the last row of a list.
 pub(crate) const END: u8 = 255;

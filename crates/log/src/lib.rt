@@ -147,16 +147,19 @@ pub fn is_named(log: &[u32; limits::LOG_NUMBERS], position: usize, vendor: u32, 
     avp::is_same_name(log[at + 1], log[at + 2], vendor, code)
 }
 
-// The number of the entry of the AVP at a position, 255 where there is none or it is above 255.
+// The number of an entry where there is no position, and where it is above that of any octet.
+const NO_NUMBER: u8 = 255;
+
+// The number of the entry of the AVP at a position; `NO_NUMBER` where there is none, or one that is no octet.
 pub fn entry_at(log: &[u32; limits::LOG_NUMBERS], position: usize) -> u8
     ensures { λ r. ⌜ r ≡ entryAt (now (log .entry)) position ⌝ }
 {
     if limits::MOST_AVPS <= position {
-        return 255;
+        return NO_NUMBER;
     }
     let number = log[position * limits::LOGGED_NUMBERS + 7];
-    if 255 < number {
-        return 255;
+    if (NO_NUMBER as u32) < number {
+        return NO_NUMBER;
     }
     number as u8
 }

@@ -42,8 +42,8 @@ metBy dict s (Refused v) = []
 unfoldable pub logAfterBy : List Entry → (ℕ → ℕ → ℕ) → List ℕ → List ℕ → List ℕ
 logAfterBy dict entry s before = putAll before 0 (loggedFrom entry 0 (metBy dict s (headerOutcome s)))
 
--- how many AVPs stand in the log: those of a whole walk, however its lists are judged; none after a fault of header or
--- walk
+-- the count that is told: the AVPs of a whole walk, however its lists are judged; 0 after a fault of header or walk,
+-- though the log then holds the AVPs that were met before it
 abbrev pub countBy : List Entry → List ℕ → Outcome → ℕ
 countBy dict s Pass = countOf (walkBy dict s)
 countBy dict s (Refused v) = 0

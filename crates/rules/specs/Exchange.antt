@@ -25,7 +25,7 @@ abbrev pub present : ℕ → ℕ → ℕ → Found → Outcome
 present end vendor code (At i) = Pass
 present end vendor code Nothing = refused 5005 end vendor code
 
--- the command's own list has an AVP
+-- a list has an AVP
 abbrev pub require : (ℕ → ℕ → Found) → ℕ → ℕ → ℕ → Outcome
 require find end vendor code = present end vendor code (find vendor code)
 

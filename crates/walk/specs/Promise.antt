@@ -123,7 +123,8 @@ pub record ListWalked (dict : List Entry) (entry : ℕ → ℕ → ℕ) (s : Lis
 unfoldable pub commandWalk : List Entry → List ℕ → Walked
 commandWalk dict s = cond (ltb longestCommand (length s)) (stopped [] (verdict 7001 1 0 0)) (walkBy dict s)
 
--- a log after a whole walk of so many AVPs: it holds them with their families, where the entries' numbers are octets
+-- a log after a whole walk of so many AVPs: it holds them with their families, where the entries' numbers are octets, as
+-- those by any table are
 pub record IsKept (dict : List Entry) (entry : ℕ → ℕ → ℕ) (s log : List ℕ) (c : ℕ) : Type 0 where
   pub number : c ≡ length (avpsOf (commandWalk dict s))
   pub kept : ((vendor code : ℕ) → entry vendor code ≤ noNumber) → Keeps log (loggedFrom entry 0 (avpsOf (commandWalk dict s)))

@@ -27,8 +27,7 @@ use rules::Verdict;
 use rules::flags;
 use rules::limits;
 
-// What the checks of an AVP give: the fault; or the AVP and the number of its entry, where its data is not looked into,
-// and where it is a list.
+// What the checks of an AVP give, as `Checked`, with the number of the entry of an AVP that passed.
 pub(crate) enum Met {
     Faulty(Verdict),
     Basic { avp: Avp, entry: u8 },

@@ -29,10 +29,10 @@ extern "C" {
     ) -> Step;
 }
 
-// Each call below is sound for the same reasons. The pointers come from references, so they are not null and live
-// through the call; slices pass with their own lengths, arrays have the lengths of their types; `&mut` overlaps nothing
-// else. The functions have no precondition on contents, are proved to read and write within these bounds, and keep no
-// pointer.
+// Each call below is sound for the same reasons. The pointers come from references or a box, so they are not null and
+// live through the call; slices pass with their own lengths, arrays have the lengths of their types; `&mut` overlaps
+// nothing else. The functions have no precondition on contents, are proved to read and write within these bounds, and
+// keep no pointer.
 
 pub(crate) fn verdict(octets: &[u8], log: &mut [u32; LOG_NUMBERS]) -> Verdict {
     // SAFETY: the slice is read, the log of 2,304 numbers written; see above.

@@ -2,6 +2,7 @@
 use mathlib.Core.Path.{sym, _∙_, ap}
 use borrow.Author.Needs.{needs}
 use Rattle.rules.specs.Exchange.{exchangeBy}
+use Rattle.rules.proofs.Outcomes.{answers}
 use Rattle.log.specs.Log.{avpsIn}
 use Rattle.log.proofs.Log.{avps-used}
 use Rattle.exchange.proofs.judge.Statement.{statement}
@@ -26,7 +27,8 @@ returns c =
     let u = b .before in
     let a = u .before .before .args in
     let same = ap (avpsIn (a .log .now)) (u .used .ensures) ∙ avps-used (a .log .now) (a .count) in
-    rw (← same, ← u .used .ensures, sym (b .by-command .ensures) ∙ c .enum-told2 .given .1) (c .enum-told2 .given .1)
+    answers _ _ _
+    (rw (← same, ← u .used .ensures, sym (b .by-command .ensures) ∙ c .enum-told2 .given .1) (c .enum-told2 .given .1))
 
 returns-2 : tie.Need-returns-2
 unfolding exchangeBy
@@ -35,7 +37,7 @@ returns-2 c =
     let u = b .before in
     let a = u .before .before .args in
     let same = ap (avpsIn (a .log .now)) (u .used .ensures) ∙ avps-used (a .log .now) (a .count) in
-    rw (← same, ← u .used .ensures, sym (b .by-command .ensures) ∙ c .enum-told .given .1)
+    answers _ _ _ (rw (← same, ← u .used .ensures, sym (b .by-command .ensures) ∙ c .enum-told .given .1))
 
 pub judge-spec : {M : Type 1} → statement M
 judge-spec =

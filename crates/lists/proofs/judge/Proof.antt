@@ -8,6 +8,7 @@ use native.Mathlib.Omega.{arith}
 use Rattle.rules.specs.declared.Avp.{Avp}
 use Rattle.rules.specs.Walk.{mostAvps}
 use Rattle.rules.specs.Command.{commandGrammar}
+use Rattle.rules.proofs.Outcomes.{answers}
 use Rattle.log.specs.Log.{loggedOf, avpsIn}
 use Rattle.log.proofs.Log.{avps-used}
 use Rattle.lists.specs.ByLog.{listBy}
@@ -60,7 +61,7 @@ returns : tie.Need-returns
 returns c =
     let l = c .before .before in
     let u = l .before .before .before .before .before .before in
-    own-refused _ _ _ _ _ _ _ (own l) (c .enum-told .given .1) ∙ used u
+    answers _ _ _ (own-refused _ _ _ _ _ _ _ (own l) (c .enum-told .given .1) ∙ used u)
 
 enum-told-2 : tie.Need-enum-told-2
 enum-told-2 c = search needs
@@ -77,8 +78,9 @@ returns-2 c =
     let p = g .before .before .before in
     let l = p .before .before in
     let u = l .before .before .before .before .before .before in
-    group-refused _ _ _ _ _ _ _ (own l) (p .enum-told2 .given .1) _ (g .groups-outcome .ensures .rows) (c .enum-told3 .given .1)
-    ∙ used u
+    answers _ _ _
+    (group-refused _ _ _ _ _ _ _ (own l) (p .enum-told2 .given .1) _ (g .groups-outcome .ensures .rows) (c .enum-told3 .given .1)
+    ∙ used u)
 
 enum-told-4 : tie.Need-enum-told-4
 enum-told-4 c = search needs
@@ -102,9 +104,10 @@ returns-3 c =
     let groups = g .groups-outcome .ensures in
     let few : min (u .used .result) mostAvps ≡ u .used .result = omega (arith, u .used .ensures) in
     let kept = rw (y .no-firsts .ensures, sub-zero (u .used .result)) at (l .list-outcome .ensures .kept (p .enum-told2 .given .1)) in
-    (rw (few, kept, f .has-flag .ensures, groups .policies passed, groups .windows passed) at (c .judge .ensures))
+    answers _ _ _
+    ((rw (few, kept, f .has-flag .ensures, groups .policies passed, groups .windows passed) at (c .judge .ensures .is))
     ∙ rows-passed _ _ _ _ _ _ _ (own l) (p .enum-told2 .given .1) _ (groups .rows) passed
-    ∙ used u
+    ∙ used u)
 
 pub judge-spec : {M : Type 1} → statement M
 judge-spec =

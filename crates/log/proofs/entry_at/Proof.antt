@@ -20,6 +20,9 @@ mul-number-2 c = search needs
 element-copy-out-number : tie.Need-element-copy-out-number
 element-copy-out-number c = search needs
 
+cast-if2 : tie.Need-cast-if2
+cast-if2 c = search needs
+
 returns-2 : tie.Need-returns-2
 returns-2 c =
     let s = c .before .before in
@@ -42,6 +45,7 @@ entry-at-spec =
     add-number
     mul-number-2
     element-copy-out-number
+    cast-if2
     returns-2
     cast-result
     returns-3)

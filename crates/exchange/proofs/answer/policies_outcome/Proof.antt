@@ -46,14 +46,14 @@ returns-2 c =
     let policy = sym (f .search .ensures .is) ∙ k .i .given .1 in
     policy-unreferenced (findIn (a .firsts .now) (a .count)) _ _ _ policy _ _ (r .require .ensures) (c .enum-told3 .given .1)
 
-add-first : tie.Need-add-first
-add-first c =
+add-next-own : tie.Need-add-next-own
+add-next-own c =
     let k = c .before .before .before .before in
     let f = k .before .before in
     omega (arith, f .search .ensures .used _ (k .i .given .1), f .before .pre)
 
-first-requires : tie.Need-first-requires
-first-requires c κs = search needs
+next-own-requires : tie.Need-next-own-requires
+next-own-requires c κs = search needs
 
 enum-told-4 : tie.Need-enum-told-4
 enum-told-4 c = search needs
@@ -72,7 +72,7 @@ returns-3 c =
     let a = f .before .args in
     let policy = sym (f .search .ensures .is) ∙ k .i .given .1 in
     let reference = sym (r .require .ensures) ∙ q .enum-told2 .given .1 in
-    one-policy (findIn (a .firsts .now) (a .count)) _ _ _ policy reference (sym (n .first .ensures .is) ∙ c .enum-told5 .given .1)
+    one-policy (findIn (a .firsts .now) (a .count)) _ _ _ policy reference (sym (n .next-own .ensures .is) ∙ c .enum-told5 .given .1)
 
 require-requires-2 : tie.Need-require-requires-2
 require-requires-2 c κs = search needs
@@ -91,7 +91,7 @@ returns-4 c =
     let reference = sym (r .require .ensures) ∙ q .enum-told2 .given .1 in
     let find = findIn (a .firsts .now) (a .count) in
     let address : c .require2 .result ≡ require find (a .end) vendor3GPP 2207 = c .require2 .ensures in
-    address ∙ more-policies find _ _ _ policy reference _ (sym (n .first .ensures .is) ∙ m .enum-told4 .given .1)
+    address ∙ more-policies find _ _ _ policy reference _ (sym (n .next-own .ensures .is) ∙ m .enum-told4 .given .1)
 
 pub policies-outcome-spec : {M : Type 1} → statement M
 policies-outcome-spec =
@@ -105,8 +105,8 @@ policies-outcome-spec =
     enum-told-2
     enum-told-3
     returns-2
-    add-first
-    first-requires
+    add-next-own
+    next-own-requires
     enum-told-4
     enum-told-5
     returns-3

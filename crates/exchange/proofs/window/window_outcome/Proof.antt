@@ -2,6 +2,7 @@
 use mathlib.Core.Path.{_≡_, sym, ap, _∙_}
 use borrow.Author.Needs.{needs}
 use Rattle.rules.specs.Dictionary.{dictionary}
+use Rattle.rules.proofs.Outcomes.{answers}
 use Rattle.dictionary.specs.Entries.{vendorOf, codeOf}
 use Rattle.log.specs.Log.{avpsIn}
 use Rattle.log.proofs.Log.{avps-used}
@@ -36,8 +37,9 @@ unfolding dictionary vendorOf codeOf
 returns c =
     let t = c .before in
     let f = t .before .before in
-    rw (← f .before .used .ensures)
-    (c .refusal .ensures .is ∙ window-no-start _ _ _ _ (sym (f .search .ensures .is) ∙ t .enum-told .given .1))
+    answers _ _ _
+    (rw (← f .before .used .ensures)
+    (c .refusal .ensures .is ∙ window-no-start _ _ _ _ (sym (f .search .ensures .is) ∙ t .enum-told .given .1)))
 
 search-requires-2 : tie.Need-search-requires-2
 search-requires-2 c κs = search needs
@@ -60,7 +62,7 @@ returns-2 c =
     let f = k .before .before in
     let start = sym (f .search .ensures .is) ∙ k .from .given .1 in
     let end = sym (g .search2 .ensures .is) ∙ t .enum-told2 .given .1 in
-    rw (← f .before .used .ensures) (c .refusal2 .ensures .is ∙ window-no-end _ _ _ _ _ start end)
+    answers _ _ _ (rw (← f .before .used .ensures) (c .refusal2 .ensures .is ∙ window-no-end _ _ _ _ _ start end))
 
 times-by-requires : tie.Need-times-by-requires
 times-by-requires c κs =
@@ -81,7 +83,8 @@ returns-3 c =
     let f = k .before .before in
     let start = sym (f .search .ensures .is) ∙ k .from .given .1 in
     let end = sym (g .search2 .ensures .is) ∙ j .to .given .1 in
-    rw (← avps (f .before), ← f .before .used .ensures) (c .times-by .ensures ∙ window-both _ _ _ _ _ start _ end)
+    answers _ _ _
+    (rw (← avps (f .before), ← f .before .used .ensures) (c .times-by .ensures ∙ window-both _ _ _ _ _ start _ end))
 
 pub window-outcome-spec : {M : Type 1} → statement M
 window-outcome-spec =

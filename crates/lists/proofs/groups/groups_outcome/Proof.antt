@@ -15,9 +15,9 @@ use Rattle.rules.proofs.Walk.{never}
 use Rattle.dictionary.specs.Entries.{definitionAt}
 use Rattle.log.specs.Log.{Logged, loggedOf, avpsIn}
 use Rattle.exchange.specs.Firsts.{findIn}
-use Rattle.lists.specs.ByLog.{stopOf, groupAt}
+use Rattle.lists.specs.ByLog.{familyEnd, groupAt}
 use Rattle.lists.specs.Firsts.{noFirsts, firstsFrom}
-use Rattle.lists.specs.Exchanges.{firstsAt, asPolicy, asWindow, policyAt, windowAt}
+use Rattle.lists.specs.Exchanges.{firstsAt, asPolicy, asWindow, policyLogged, windowLogged}
 use Rattle.lists.proofs.Members.{Reached, reached-none, reached-next, reached-pass, reached-all, reached-fault, no-rows, no-policy, no-window}
 use Rattle.lists.proofs.groups.groups_outcome.Statement.{statement}
 use Rattle.lists.proofs.groups.groups_outcome.Tie as tie
@@ -25,8 +25,8 @@ use Rattle.lists.proofs.groups.groups_outcome.Tie as tie
 abbrev Inv-loop : tie.InvT-loop
 Inv-loop s log count admissions rows policies₀ windows₀ i₀ policies windows i =
     Reached (groupAt (loggedOf log) count) count Pass i
-    × Reached (policyAt (loggedOf log) count) count policies i
-    × Reached (windowAt (loggedOf log) (avpsIn log count) s count) count windows i
+    × Reached (policyLogged (loggedOf log) count) count policies i
+    × Reached (windowLogged (loggedOf log) (avpsIn log count) s count) count windows i
 
 abbrev μ-loop : tie.MeasureT-loop
 μ-loop s log count admissions rows policies₀ windows₀ i₀ policies windows i = count - i
@@ -76,8 +76,8 @@ loop-again c =
 after-at-requires : tie.Need-after-at-requires Inv-loop μ-loop
 after-at-requires c κs = search needs
 
-lesser-requires : tie.Need-lesser-requires Inv-loop μ-loop
-lesser-requires c κs = search needs
+least-requires : tie.Need-least-requires Inv-loop μ-loop
+least-requires c κs = search needs
 
 data-end-requires : tie.Need-data-end-requires Inv-loop μ-loop
 data-end-requires c κs = search needs
@@ -88,7 +88,7 @@ no-firsts-requires c κs = search needs
 list-outcome-requires : tie.Need-list-outcome-requires Inv-loop μ-loop
 list-outcome-requires c κs =
     let s = c .before .before .before .before .before .before .before .before .before .before .before .before .before .pre in
-    record { few = omega (arith, s .few, c .before .before .before .lesser .ensures); admits = s .admits; wants = s .wants }
+    record { few = omega (arith, s .few, c .before .before .before .least .ensures); admits = s .admits; wants = s .wants }
 
 -- a group: what its rows say
 rows : (c : tie.After-list-outcome Inv-loop μ-loop) →
@@ -100,7 +100,7 @@ rows c =
     let a = d .before .before in
     let k = a .before .before in
     let is = sym (members (k .before .before)) ∙ k .grammar .given .1 in
-    rw (is, ← a .after-at .ensures, ← d .before .lesser .ensures, ← d .data-end .ensures) (c .list-outcome .ensures .is)
+    rw (is, ← a .after-at .ensures, ← d .before .least .ensures, ← d .data-end .ensures) (c .list-outcome .ensures .is)
 
 enum-told-2 : tie.Need-enum-told-2 Inv-loop μ-loop
 enum-told-2 c = search needs
@@ -130,7 +130,7 @@ loop-less-2 : tie.Need-loop-less-2 Inv-loop μ-loop
 loop-less-2 c = omega arith
 
 loop-again-2 : tie.Need-loop-again-2 Inv-loop μ-loop
-unfolding policyAt windowAt
+unfolding policyLogged windowLogged
 loop-again-2 c =
     let w = c .before .before in
     let e = w .before .before in
@@ -141,12 +141,12 @@ loop-again-2 c =
     let at = loggedOf (s .log .now) in
     let d = o .before .before .before in
     let passed = e .enum-told3 .given .1 in
-    let is = rw (o .before .before .no-firsts .ensures, d .before .lesser .ensures, d .before .before .after-at .ensures)
+    let is = rw (o .before .before .no-firsts .ensures, d .before .least .ensures, d .before .before .after-at .ensures)
     at (o .list-outcome .ensures .kept passed) in
-    let policy : w .with-policy .result ≡ orElse (l .policies) (policyAt at (s .count) (l .i)) =
+    let policy : w .with-policy .result ≡ orElse (l .policies) (policyLogged at (s .count) (l .i)) =
     w .with-policy .ensures
     ∙ ap (λ (firsts : List ℕ). orElse (l .policies) (asPolicy (findIn firsts (s .count)) (at (l .i)))) is in
-    let window : c .with-window .result ≡ orElse (l .windows) (windowAt at (avpsIn (s .log .now) (s .count)) (s .s .now) (s .count) (l .i)) =
+    let window : c .with-window .result ≡ orElse (l .windows) (windowLogged at (avpsIn (s .log .now) (s .count)) (s .s .now) (s .count) (l .i)) =
     c .with-window .ensures
     ∙ ap (λ (firsts : List ℕ). orElse (l .windows) (asWindow (findIn firsts (s .count)) (avpsIn (s .log .now) (s .count)) (s .s .now) (at (l .i)))) is in (
       rw passed at (reached-next _ _ Pass _ (l .i) (l .inv .0) (t .loop-test .taken) (rows o)),
@@ -179,7 +179,7 @@ groups-outcome-spec =
     loop-less
     loop-again
     after-at-requires
-    lesser-requires
+    least-requires
     data-end-requires
     no-firsts-requires
     list-outcome-requires

@@ -1,8 +1,11 @@
 -- `lists::groups::with_policy` meets its contract.
 use borrow.Author.Needs.{needs}
 use mathlib.Core.Path.{_≡_, sym, _∙_}
+use Prim.Native.Nat.{min}
+use native.Mathlib.Omega.{arith}
 use borrow.Author.Tests.{eq-eqb, ne-eqb}
 use Rattle.rules.specs.Dictionary.{dictionary}
+use Rattle.rules.specs.Walk.{mostAvps}
 use Rattle.dictionary.specs.Entries.{numberWhere}
 use Rattle.lists.proofs.groups.with_policy.Statement.{statement}
 use Rattle.lists.proofs.groups.with_policy.Tie as tie
@@ -55,6 +58,8 @@ returns-4 c =
     let f = c .before .before in
     let d = f .before in
     let e = d .before .before in
+    let b = e .before .before .before in
+    let few : min (b .args .count) mostAvps ≡ b .args .count = omega (arith, b .pre) in
     rw (
       e .before .enum-told .given .1,
       ← e .entry-at .ensures,
@@ -63,7 +68,7 @@ returns-4 c =
       eq-eqb _ _ (f .if2 .left),
       ← c .before .data-end .ensures,
     )
-    (c .policy-outcome .ensures)
+    (rw few at (c .policy-outcome .ensures .is))
 
 pub with-policy-spec : {M : Type 1} → statement M
 with-policy-spec =

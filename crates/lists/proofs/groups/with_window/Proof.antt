@@ -48,7 +48,7 @@ returns-3 c =
       eq-eqb _ _ (t .if1 .left),
       ← c .before .data-end .ensures,
     )
-    (rw few at (c .window-outcome .ensures))
+    (rw few at (c .window-outcome .ensures .is))
 
 pub with-window-spec : {M : Type 1} → statement M
 with-window-spec =
