@@ -6,7 +6,7 @@
 //! of them; it prints the ratios of its rounds. `bench listing` prints the second reader's listing of the book on
 //! standard input, to be measured beside the program `verdicts`.
 
-use bench::processes::{EFFORT, PROCESSES};
+use bench::processes::{EFFORT, LISTING, PROCESSES};
 use bench::{listing, processes, summary, SEED};
 use std::env;
 use std::path::Path;
@@ -47,9 +47,9 @@ fn measure(work: fn(&Path, u64) -> Result<(), String>, seed: u64) -> Result<(), 
 fn run(bench: &Path, seed: u64) -> Result<(), String> {
     let text = summary::summary(&processes::run(bench, seed)?)?;
     println!(
-        "seed {seed}, {PROCESSES} processes of {} rounds; ratio of times, proved reader to second reader: median \
-         (least to greatest) of the processes' medians",
-        EFFORT.rounds
+        "seed {seed}, {PROCESSES} processes of {} rounds, {} for a listing; ratio of times, proved reader to second \
+         reader: median (least to greatest) of the processes' medians",
+        EFFORT.rounds, LISTING.rounds
     );
     print!("{text}");
     if let Err(words) = listing::program() {

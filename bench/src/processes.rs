@@ -17,7 +17,7 @@ pub const PROCESSES: usize = 7;
 pub const EFFORT: Effort = Effort { rounds: 17, turn: Duration::from_micros(600) };
 
 /// A turn of a listing is one process.
-const LISTING: Effort = Effort { rounds: 51, turn: Duration::ZERO };
+pub const LISTING: Effort = Effort { rounds: 51, turn: Duration::ZERO };
 
 /// The environment's variable whose length moves stack and heap.
 const ROOM: &str = "BENCH_ROOM";

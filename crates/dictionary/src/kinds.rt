@@ -1,6 +1,7 @@
 // The AVP kinds of document 01's dictionary, in the order of its entries: Vendor-Id, AVP code and, where it is fixed,
 // the width of the data, as constants of each kind; the number of its entry, which is its position; and the facts of
-// the entry in one number. The code names an AVP by these alone; a place of a table has the kind as a comment.
+// the entry in one number. The code names an AVP by these alone; in
+// `lists::admission_table` a place has its kind as a comment.
 use rules::limits::NO_VENDOR;
 use rules::limits::VENDOR_3GPP;
 
@@ -32,7 +33,7 @@ impl AuthApplicationId {
 
     pub const ENTRY: u8 = 0;
 
-    pub const FACTS: u8 = M_REQUIRED + ONE_OCTET * AuthApplicationId::WIDTH as u8;
+    pub(crate) const FACTS: u8 = M_REQUIRED + ONE_OCTET * AuthApplicationId::WIDTH as u8;
 }
 
 pub struct AcctApplicationId;
@@ -46,7 +47,7 @@ impl AcctApplicationId {
 
     pub const ENTRY: u8 = 1;
 
-    pub const FACTS: u8 = M_REQUIRED + ONE_OCTET * AcctApplicationId::WIDTH as u8;
+    pub(crate) const FACTS: u8 = M_REQUIRED + ONE_OCTET * AcctApplicationId::WIDTH as u8;
 }
 
 pub struct RedirectHostUsage;
@@ -60,7 +61,7 @@ impl RedirectHostUsage {
 
     pub const ENTRY: u8 = 2;
 
-    pub const FACTS: u8 = M_REQUIRED + ONE_OCTET * RedirectHostUsage::WIDTH as u8;
+    pub(crate) const FACTS: u8 = M_REQUIRED + ONE_OCTET * RedirectHostUsage::WIDTH as u8;
 }
 
 pub struct RedirectMaxCacheTime;
@@ -74,7 +75,7 @@ impl RedirectMaxCacheTime {
 
     pub const ENTRY: u8 = 3;
 
-    pub const FACTS: u8 = M_REQUIRED + ONE_OCTET * RedirectMaxCacheTime::WIDTH as u8;
+    pub(crate) const FACTS: u8 = M_REQUIRED + ONE_OCTET * RedirectMaxCacheTime::WIDTH as u8;
 }
 
 pub struct VendorId;
@@ -88,7 +89,7 @@ impl VendorId {
 
     pub const ENTRY: u8 = 4;
 
-    pub const FACTS: u8 = M_REQUIRED + ONE_OCTET * VendorId::WIDTH as u8;
+    pub(crate) const FACTS: u8 = M_REQUIRED + ONE_OCTET * VendorId::WIDTH as u8;
 }
 
 pub struct ResultCode;
@@ -102,7 +103,7 @@ impl ResultCode {
 
     pub const ENTRY: u8 = 5;
 
-    pub const FACTS: u8 = M_REQUIRED + ONE_OCTET * ResultCode::WIDTH as u8;
+    pub(crate) const FACTS: u8 = M_REQUIRED + ONE_OCTET * ResultCode::WIDTH as u8;
 }
 
 pub struct AuthSessionState;
@@ -116,7 +117,7 @@ impl AuthSessionState {
 
     pub const ENTRY: u8 = 6;
 
-    pub const FACTS: u8 = M_REQUIRED + ONE_OCTET * AuthSessionState::WIDTH as u8;
+    pub(crate) const FACTS: u8 = M_REQUIRED + ONE_OCTET * AuthSessionState::WIDTH as u8;
 }
 
 pub struct OriginStateId;
@@ -130,7 +131,7 @@ impl OriginStateId {
 
     pub const ENTRY: u8 = 7;
 
-    pub const FACTS: u8 = M_REQUIRED + ONE_OCTET * OriginStateId::WIDTH as u8;
+    pub(crate) const FACTS: u8 = M_REQUIRED + ONE_OCTET * OriginStateId::WIDTH as u8;
 }
 
 pub struct ExperimentalResultCode;
@@ -144,7 +145,7 @@ impl ExperimentalResultCode {
 
     pub const ENTRY: u8 = 8;
 
-    pub const FACTS: u8 = M_REQUIRED + ONE_OCTET * ExperimentalResultCode::WIDTH as u8;
+    pub(crate) const FACTS: u8 = M_REQUIRED + ONE_OCTET * ExperimentalResultCode::WIDTH as u8;
 }
 
 // RFC 6733: any length
@@ -158,7 +159,7 @@ impl SessionId {
 
     pub const ENTRY: u8 = 9;
 
-    pub const FACTS: u8 = M_REQUIRED;
+    pub(crate) const FACTS: u8 = M_REQUIRED;
 }
 
 pub struct OriginHost;
@@ -170,7 +171,7 @@ impl OriginHost {
 
     pub const ENTRY: u8 = 10;
 
-    pub const FACTS: u8 = M_REQUIRED;
+    pub(crate) const FACTS: u8 = M_REQUIRED;
 }
 
 pub struct OriginRealm;
@@ -182,7 +183,7 @@ impl OriginRealm {
 
     pub const ENTRY: u8 = 11;
 
-    pub const FACTS: u8 = M_REQUIRED;
+    pub(crate) const FACTS: u8 = M_REQUIRED;
 }
 
 pub struct DestinationHost;
@@ -194,7 +195,7 @@ impl DestinationHost {
 
     pub const ENTRY: u8 = 12;
 
-    pub const FACTS: u8 = M_REQUIRED;
+    pub(crate) const FACTS: u8 = M_REQUIRED;
 }
 
 pub struct DestinationRealm;
@@ -206,7 +207,7 @@ impl DestinationRealm {
 
     pub const ENTRY: u8 = 13;
 
-    pub const FACTS: u8 = M_REQUIRED;
+    pub(crate) const FACTS: u8 = M_REQUIRED;
 }
 
 pub struct RedirectHost;
@@ -218,7 +219,7 @@ impl RedirectHost {
 
     pub const ENTRY: u8 = 14;
 
-    pub const FACTS: u8 = M_REQUIRED;
+    pub(crate) const FACTS: u8 = M_REQUIRED;
 }
 
 pub struct ProxyHost;
@@ -230,7 +231,7 @@ impl ProxyHost {
 
     pub const ENTRY: u8 = 15;
 
-    pub const FACTS: u8 = M_REQUIRED;
+    pub(crate) const FACTS: u8 = M_REQUIRED;
 }
 
 pub struct ProxyState;
@@ -242,7 +243,7 @@ impl ProxyState {
 
     pub const ENTRY: u8 = 16;
 
-    pub const FACTS: u8 = M_REQUIRED;
+    pub(crate) const FACTS: u8 = M_REQUIRED;
 }
 
 pub struct RouteRecord;
@@ -254,7 +255,7 @@ impl RouteRecord {
 
     pub const ENTRY: u8 = 17;
 
-    pub const FACTS: u8 = M_REQUIRED;
+    pub(crate) const FACTS: u8 = M_REQUIRED;
 }
 
 pub struct FailedAvp;
@@ -266,7 +267,7 @@ impl FailedAvp {
 
     pub const ENTRY: u8 = 18;
 
-    pub const FACTS: u8 = M_REQUIRED;
+    pub(crate) const FACTS: u8 = M_REQUIRED;
 }
 
 // RFC 6733: any length, M free
@@ -280,7 +281,7 @@ impl ErrorMessage {
 
     pub const ENTRY: u8 = 19;
 
-    pub const FACTS: u8 = M_FREE;
+    pub(crate) const FACTS: u8 = M_FREE;
 }
 
 pub struct ErrorReportingHost;
@@ -292,7 +293,7 @@ impl ErrorReportingHost {
 
     pub const ENTRY: u8 = 20;
 
-    pub const FACTS: u8 = M_FREE;
+    pub(crate) const FACTS: u8 = M_FREE;
 }
 
 // RFC 6733: groups
@@ -306,7 +307,7 @@ impl VendorSpecificApplicationId {
 
     pub const ENTRY: u8 = 21;
 
-    pub const FACTS: u8 = M_REQUIRED + GROUP;
+    pub(crate) const FACTS: u8 = M_REQUIRED + GROUP;
 }
 
 pub struct ExperimentalResult;
@@ -318,7 +319,7 @@ impl ExperimentalResult {
 
     pub const ENTRY: u8 = 22;
 
-    pub const FACTS: u8 = M_REQUIRED + GROUP;
+    pub(crate) const FACTS: u8 = M_REQUIRED + GROUP;
 }
 
 pub struct ProxyInfo;
@@ -330,7 +331,7 @@ impl ProxyInfo {
 
     pub const ENTRY: u8 = 23;
 
-    pub const FACTS: u8 = M_REQUIRED + GROUP;
+    pub(crate) const FACTS: u8 = M_REQUIRED + GROUP;
 }
 
 // RFC 4006: four octets
@@ -346,7 +347,7 @@ impl RatingGroup {
 
     pub const ENTRY: u8 = 24;
 
-    pub const FACTS: u8 = M_REQUIRED + ONE_OCTET * RatingGroup::WIDTH as u8;
+    pub(crate) const FACTS: u8 = M_REQUIRED + ONE_OCTET * RatingGroup::WIDTH as u8;
 }
 
 // RFC 4006: eight octets
@@ -362,7 +363,7 @@ impl CcInputOctets {
 
     pub const ENTRY: u8 = 25;
 
-    pub const FACTS: u8 = M_REQUIRED + ONE_OCTET * CcInputOctets::WIDTH as u8;
+    pub(crate) const FACTS: u8 = M_REQUIRED + ONE_OCTET * CcInputOctets::WIDTH as u8;
 }
 
 pub struct CcOutputOctets;
@@ -376,7 +377,7 @@ impl CcOutputOctets {
 
     pub const ENTRY: u8 = 26;
 
-    pub const FACTS: u8 = M_REQUIRED + ONE_OCTET * CcOutputOctets::WIDTH as u8;
+    pub(crate) const FACTS: u8 = M_REQUIRED + ONE_OCTET * CcOutputOctets::WIDTH as u8;
 }
 
 pub struct CcTotalOctets;
@@ -390,7 +391,7 @@ impl CcTotalOctets {
 
     pub const ENTRY: u8 = 27;
 
-    pub const FACTS: u8 = M_REQUIRED + ONE_OCTET * CcTotalOctets::WIDTH as u8;
+    pub(crate) const FACTS: u8 = M_REQUIRED + ONE_OCTET * CcTotalOctets::WIDTH as u8;
 }
 
 // No vendor, M free: four octets
@@ -406,7 +407,7 @@ impl Drmp {
 
     pub const ENTRY: u8 = 28;
 
-    pub const FACTS: u8 = M_FREE + ONE_OCTET * Drmp::WIDTH as u8;
+    pub(crate) const FACTS: u8 = M_FREE + ONE_OCTET * Drmp::WIDTH as u8;
 }
 
 // No vendor, M free: any length
@@ -420,7 +421,7 @@ impl OcSupportedFeatures {
 
     pub const ENTRY: u8 = 29;
 
-    pub const FACTS: u8 = M_FREE;
+    pub(crate) const FACTS: u8 = M_FREE;
 }
 
 pub struct OcOlr;
@@ -432,7 +433,7 @@ impl OcOlr {
 
     pub const ENTRY: u8 = 30;
 
-    pub const FACTS: u8 = M_FREE;
+    pub(crate) const FACTS: u8 = M_FREE;
 }
 
 pub struct Load;
@@ -444,7 +445,7 @@ impl Load {
 
     pub const ENTRY: u8 = 31;
 
-    pub const FACTS: u8 = M_FREE;
+    pub(crate) const FACTS: u8 = M_FREE;
 }
 
 // 3GPP, M free: four octets
@@ -460,7 +461,7 @@ impl FeatureListId {
 
     pub const ENTRY: u8 = 32;
 
-    pub const FACTS: u8 = M_FREE + ONE_OCTET * FeatureListId::WIDTH as u8;
+    pub(crate) const FACTS: u8 = M_FREE + ONE_OCTET * FeatureListId::WIDTH as u8;
 }
 
 pub struct FeatureList;
@@ -474,7 +475,7 @@ impl FeatureList {
 
     pub const ENTRY: u8 = 33;
 
-    pub const FACTS: u8 = M_FREE + ONE_OCTET * FeatureList::WIDTH as u8;
+    pub(crate) const FACTS: u8 = M_FREE + ONE_OCTET * FeatureList::WIDTH as u8;
 }
 
 // 3GPP, M free: any length
@@ -488,7 +489,7 @@ impl ApplicationServiceProviderIdentity {
 
     pub const ENTRY: u8 = 34;
 
-    pub const FACTS: u8 = M_FREE;
+    pub(crate) const FACTS: u8 = M_FREE;
 }
 
 pub struct PcrfAddress;
@@ -500,7 +501,7 @@ impl PcrfAddress {
 
     pub const ENTRY: u8 = 35;
 
-    pub const FACTS: u8 = M_FREE;
+    pub(crate) const FACTS: u8 = M_FREE;
 }
 
 // 3GPP, M free: a group
@@ -514,7 +515,7 @@ impl SupportedFeatures {
 
     pub const ENTRY: u8 = 36;
 
-    pub const FACTS: u8 = M_FREE + GROUP;
+    pub(crate) const FACTS: u8 = M_FREE + GROUP;
 }
 
 // 3GPP: four octets
@@ -530,7 +531,7 @@ impl MaxRequestedBandwidthDl {
 
     pub const ENTRY: u8 = 37;
 
-    pub const FACTS: u8 = M_REQUIRED + ONE_OCTET * MaxRequestedBandwidthDl::WIDTH as u8;
+    pub(crate) const FACTS: u8 = M_REQUIRED + ONE_OCTET * MaxRequestedBandwidthDl::WIDTH as u8;
 }
 
 pub struct MaxRequestedBandwidthUl;
@@ -544,7 +545,7 @@ impl MaxRequestedBandwidthUl {
 
     pub const ENTRY: u8 = 38;
 
-    pub const FACTS: u8 = M_REQUIRED + ONE_OCTET * MaxRequestedBandwidthUl::WIDTH as u8;
+    pub(crate) const FACTS: u8 = M_REQUIRED + ONE_OCTET * MaxRequestedBandwidthUl::WIDTH as u8;
 }
 
 pub struct TransferRequestType;
@@ -558,7 +559,7 @@ impl TransferRequestType {
 
     pub const ENTRY: u8 = 39;
 
-    pub const FACTS: u8 = M_REQUIRED + ONE_OCTET * TransferRequestType::WIDTH as u8;
+    pub(crate) const FACTS: u8 = M_REQUIRED + ONE_OCTET * TransferRequestType::WIDTH as u8;
 }
 
 pub struct TransferEndTime;
@@ -572,7 +573,7 @@ impl TransferEndTime {
 
     pub const ENTRY: u8 = 40;
 
-    pub const FACTS: u8 = M_REQUIRED + ONE_OCTET * TransferEndTime::WIDTH as u8;
+    pub(crate) const FACTS: u8 = M_REQUIRED + ONE_OCTET * TransferEndTime::WIDTH as u8;
 }
 
 pub struct TransferStartTime;
@@ -586,7 +587,7 @@ impl TransferStartTime {
 
     pub const ENTRY: u8 = 41;
 
-    pub const FACTS: u8 = M_REQUIRED + ONE_OCTET * TransferStartTime::WIDTH as u8;
+    pub(crate) const FACTS: u8 = M_REQUIRED + ONE_OCTET * TransferStartTime::WIDTH as u8;
 }
 
 pub struct TransferPolicyId;
@@ -600,7 +601,7 @@ impl TransferPolicyId {
 
     pub const ENTRY: u8 = 42;
 
-    pub const FACTS: u8 = M_REQUIRED + ONE_OCTET * TransferPolicyId::WIDTH as u8;
+    pub(crate) const FACTS: u8 = M_REQUIRED + ONE_OCTET * TransferPolicyId::WIDTH as u8;
 }
 
 pub struct NumberOfUes;
@@ -614,7 +615,7 @@ impl NumberOfUes {
 
     pub const ENTRY: u8 = 43;
 
-    pub const FACTS: u8 = M_REQUIRED + ONE_OCTET * NumberOfUes::WIDTH as u8;
+    pub(crate) const FACTS: u8 = M_REQUIRED + ONE_OCTET * NumberOfUes::WIDTH as u8;
 }
 
 // 3GPP: any length
@@ -628,7 +629,7 @@ impl NetworkAreaInfoList {
 
     pub const ENTRY: u8 = 44;
 
-    pub const FACTS: u8 = M_REQUIRED;
+    pub(crate) const FACTS: u8 = M_REQUIRED;
 }
 
 pub struct ReferenceId;
@@ -640,7 +641,7 @@ impl ReferenceId {
 
     pub const ENTRY: u8 = 45;
 
-    pub const FACTS: u8 = M_REQUIRED;
+    pub(crate) const FACTS: u8 = M_REQUIRED;
 }
 
 // 3GPP: groups
@@ -654,7 +655,7 @@ impl TimeWindow {
 
     pub const ENTRY: u8 = 46;
 
-    pub const FACTS: u8 = M_REQUIRED + GROUP;
+    pub(crate) const FACTS: u8 = M_REQUIRED + GROUP;
 }
 
 pub struct TransferPolicy;
@@ -666,5 +667,5 @@ impl TransferPolicy {
 
     pub const ENTRY: u8 = 47;
 
-    pub const FACTS: u8 = M_REQUIRED + GROUP;
+    pub(crate) const FACTS: u8 = M_REQUIRED + GROUP;
 }

@@ -1,6 +1,6 @@
 // 01, Dictionary: the number of a name's entry, for plain codes through the constant table of request [6], for 3GPP's
-// through a table of nine numbers or by a `match`; and what an entry says. Each arm of a `match` stands for one kind, by
-// its constants.
+// through a table of nine numbers or by a `match`; and what an entry says. Each arm of a `match` stands for one kind,
+// by its constants.
 ghost use mathlib.Core.Path.{_≡_};
 ghost use mathlib.Core.Bool.{cond};
 ghost use lib.Dec.{eqb};
@@ -19,7 +19,7 @@ pub mod kinds;
 mod nt;
 pub mod plain;
 
-// The Vendor-Id of an entry, none where the number is no entry's.
+// The Vendor-Id of an entry, 0 where the number is no entry's.
 pub fn vendor_of(entry: u8) -> u32
     ensures { λ r. ⌜ r ≡ vendorOf dictionary entry ⌝ }
 {

@@ -16,7 +16,7 @@ use Rattle.rules.specs.Dictionary.{Entry, dictionary}
 use Rattle.rules.proofs.Names.{both-hold}
 use Rattle.dictionary.proofs.Entries.{said-behind}
 use Rattle.dictionary.specs.Entries.{numberWhere, entryOf, saidAt, vendorOf, codeOf}
-use Rattle.exchange.specs.Positions.{FoundBelow}
+use Rattle.exchange.specs.Positions.{IsFoundAmong}
 use Rattle.exchange.specs.Firsts.{findIn}
 use Rattle.exchange.proofs.Searches.{found-at, found-nothing}
 
@@ -74,7 +74,7 @@ module _ (firsts : List ℕ) (size : length firsts ≡ entries) (count entry i :
   of-name = by-name (ltb entry entries) refl
 
   abbrev Answer : Found → Type 0
-  Answer r = FoundBelow (findIn firsts count (vendorOf dictionary entry) (codeOf dictionary entry)) count r
+  Answer r = IsFoundAmong (findIn firsts count (vendorOf dictionary entry) (codeOf dictionary entry)) count r
 
   pub first-found : i < count → Answer (At i)
   unfolding findIn

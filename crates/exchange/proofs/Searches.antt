@@ -15,7 +15,7 @@ use Rattle.rules.proofs.Searches.{first-here, first-later, first-none}
 use Rattle.log.specs.Log.{avpOf, avpsIn}
 use Rattle.log.proofs.Log.{avps-cons, avps-end}
 use Rattle.rules.specs.Search.{isAt}
-use Rattle.exchange.specs.Positions.{FoundBelow}
+use Rattle.exchange.specs.Positions.{IsFoundAmong}
 
 -- ---- an AVP at a depth with a name: the name first, then the depth
 
@@ -36,10 +36,10 @@ module _ (a : Avp) (vendor code depth : ℕ) where
 
 -- ---- the answer
 
-pub found-at : (f : Found) (count i : ℕ) → i < count → f ≡ At i → FoundBelow f count (At i)
+pub found-at : (f : Found) (count i : ℕ) → i < count → f ≡ At i → IsFoundAmong f count (At i)
 found-at f count i h e = record { is = sym e; used = λ j p. let q : i ≡ j = cc in omega arith }
 
-pub found-nothing : (f : Found) (count : ℕ) → f ≡ Nothing → FoundBelow f count Nothing
+pub found-nothing : (f : Found) (count : ℕ) → f ≡ Nothing → IsFoundAmong f count Nothing
 found-nothing f count e = record { is = sym e; used = λ j p. let z : _≡_ {A = ℕ} 0 1 = cc in absurd (omega arith) }
 
 -- what a search of the command's own list from a position of the log on gives
@@ -49,14 +49,14 @@ firstIn log count vendor code i = firstFrom i 0 1 (drop i (avpsIn log count)) ve
 -- a search from `from` on that has come to position i
 module _ (log : List ℕ) (count vendor code from i : ℕ) (room : count ≤ 256)
     (left : firstIn log count vendor code i ≡ firstIn log count vendor code from) where
-  pub found-end : count ≤ i → FoundBelow (firstIn log count vendor code from) count Nothing
+  pub found-end : count ≤ i → IsFoundAmong (firstIn log count vendor code from) count Nothing
   found-end h = found-nothing _ count (sym left ∙ rw (avps-end log count i room h) (first-none i 0 1 vendor code))
 
   module _ (a : Avp) (e : a ≡ avpOf log i) (h : i < count) (b : Bool) (t : b ≡ isAt a 1 vendor code) where
     next : firstIn log count vendor code from ≡ firstFrom i 0 1 (a ∷ drop (i + 1) (avpsIn log count)) vendor code
     next = sym left ∙ rw (avps-cons log count i room h, e)
 
-    pub found-here : b ≡ true → FoundBelow (firstIn log count vendor code from) count (At i)
+    pub found-here : b ≡ true → IsFoundAmong (firstIn log count vendor code from) count (At i)
     found-here p =
         found-at _ count i h
         (next ∙ first-here i 0 1 a (drop (i + 1) (avpsIn log count)) vendor code (omega arith) (sym t ∙ p))

@@ -1,5 +1,5 @@
--- The search of a list by the first position of each entry, which the row checks keep: what it gives
--- for any numbers. By those of a walk it is document 01's search.
+-- The search of a list by the first position of each entry, which the row checks keep: what it gives for any
+-- numbers. By those of a walk it is document 01's search.
 use Prim.Native.Nat.{ℕ}
 use mathlib.Core.List.{List}
 use mathlib.Core.Bool.{cond}

@@ -17,7 +17,7 @@ pub record Position (i count : ℕ) : Type 0 where
   pub room : count ≤ mostAvps
 
 -- what a search among `count` AVPs gives
-pub record FoundBelow (f : Found) (count : ℕ) (r : Found) : Type 0 where
+pub record IsFoundAmong (f : Found) (count : ℕ) (r : Found) : Type 0 where
   pub is : r ≡ f
   pub used : (i : ℕ) → r ≡ At i → i < count
 

@@ -72,7 +72,7 @@ fn policies_outcome(
 
 // A transfer policy by the first positions of its members: it ends at `end`, and holds a Time-Window and a
 // Rating-Group.
-pub fn policy_outcome(firsts: &[u16; kinds::ENTRIES], count: usize, end: u32) -> Outcome
+pub fn policy_in(firsts: &[u16; kinds::ENTRIES], count: usize, end: u32) -> Outcome
     ensures { λ r. ⌜ Answers verdictOf (policyIn (findIn (now (firsts .entry)) (min count mostAvps)) end) r ⌝ }
 {
     let avps = log::used(count);

@@ -11,7 +11,7 @@ ghost use Rattle.log.specs.Log.{avpOf, avpsIn};
 ghost use Rattle.rules.specs.Search.{isAt};
 ghost use Rattle.rules.specs.Dictionary.{dictionary};
 ghost use Rattle.dictionary.specs.Entries.{vendorOf, codeOf};
-ghost use Rattle.exchange.specs.Positions.{Position, FoundBelow};
+ghost use Rattle.exchange.specs.Positions.{Position, IsFoundAmong};
 ghost use Rattle.exchange.specs.Firsts.{findIn};
 use avp::refusal;
 use dictionary::kinds;
@@ -44,7 +44,7 @@ pub(crate) fn next_own(
     code: u32,
 ) -> Found
     requires { ⌜ count ≤ mostAvps ⌝ }
-    ensures { λ r. ⌜ FoundBelow (firstFrom from 0 1 (drop from (avpsIn (now (log .entry)) count)) vendor code) count r ⌝ }
+    ensures { λ r. ⌜ IsFoundAmong (firstFrom from 0 1 (drop from (avpsIn (now (log .entry)) count)) vendor code) count r ⌝ }
 {
     let mut i = from;
     while i < count {
@@ -56,7 +56,7 @@ pub(crate) fn next_own(
     Found::Nothing
 }
 
-fn position_of(first: u16) -> usize
+fn as_position(first: u16) -> usize
     ensures { λ r. ⌜ r ≡ first ⌝ }
 {
     first as usize
@@ -69,12 +69,12 @@ fn first_of(firsts: &[u16], entry: usize) -> usize
     if firsts.len() <= entry {
         return limits::MOST_AVPS;
     }
-    position_of(firsts[entry])
+    as_position(firsts[entry])
 }
 
 // The first AVP of an entry's kind in a list.
 pub(crate) fn search(firsts: &[u16; kinds::ENTRIES], count: usize, entry: u8) -> Found
-    ensures { λ r. ⌜ FoundBelow (findIn (now (firsts .entry)) count (vendorOf dictionary entry) (codeOf dictionary entry)) count r ⌝ }
+    ensures { λ r. ⌜ IsFoundAmong (findIn (now (firsts .entry)) count (vendorOf dictionary entry) (codeOf dictionary entry)) count r ⌝ }
 {
     let i = first_of(firsts, entry as usize);
     if i < count {

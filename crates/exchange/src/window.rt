@@ -41,7 +41,7 @@ fn times_by(
 }
 
 // A time window by the first positions of its members: it ends at `end`, and its start is before its end.
-pub fn window_outcome(
+pub fn window_in(
     s: &[u8],
     log: &[u32; limits::LOG_NUMBERS],
     firsts: &[u16; kinds::ENTRIES],

@@ -27,53 +27,53 @@ use Rattle.rules.proofs.Outcomes.{refused-first, or-pass, or-assoc}
 use Rattle.dictionary.specs.Entries.{numberWhere, entryOf, definitionAt}
 use Rattle.log.specs.Log.{Logged}
 use Rattle.exchange.specs.Firsts.{findIn}
-use Rattle.lists.specs.ByLog.{admissionAt, hops, membersBy, listBy, groupAt, firstFault, rowsBy}
+use Rattle.lists.specs.ByLog.{admissionAt, loggedMembers, membersBy, listBy, groupAt, firstFault, rowsBy}
 use Rattle.lists.specs.Firsts.{noFirsts, firstsFrom}
 use Rattle.lists.specs.Exchanges.{policyLogged, windowLogged, listsBy}
 
 -- what is left of a list from position i on, with the counts so far
 abbrev pub leftBy : (ℕ → Logged) → ℕ → Grammar → ℕ → List ℕ → Bool → ℕ → Outcome
-leftBy at stop g end counts first i = membersBy g end counts first (hops (stop - i) at i stop)
+leftBy at stop g end counts first i = membersBy g end counts first (loggedMembers (stop - i) at i stop)
 
 module _ (at : ℕ → Logged) where
   -- ---- the members of a list
 
   module _ (stop : ℕ) where
     -- none, from `stop` on
-    pub hops-none : (n i : ℕ) → stop ≤ i → hops n at i stop ≡ []
-    unfolding hops
-    hops-none zero i h = refl
-    hops-none (suc n) i h = rw (le-ltb i stop h)
+    pub logged-members-none : (n i : ℕ) → stop ≤ i → loggedMembers n at i stop ≡ []
+    unfolding loggedMembers
+    logged-members-none zero i h = refl
+    logged-members-none (suc n) i h = rw (le-ltb i stop h)
 
     -- before it, the one at the position, then those behind its last descendant
-    pub hops-next : (n i : ℕ) (l : Logged) → i < stop → at i ≡ l
-        → hops (suc n) at i stop ≡ l ∷ hops n at (l .after) stop
-    unfolding hops
-    hops-next n i l h e = rw (lt-ltb i stop h, e)
+    pub logged-members-next : (n i : ℕ) (l : Logged) → i < stop → at i ≡ l
+        → loggedMembers (suc n) at i stop ≡ l ∷ loggedMembers n at (l .after) stop
+    unfolding loggedMembers
+    logged-members-next n i l h e = rw (lt-ltb i stop h, e)
 
-    -- where each hop goes on, enough steps give the same members
+    -- where each step goes on, enough steps give the same members
     module _ (onward : (i : ℕ) → i < stop → i < at i .after) where
-      hops-again : (n m i : ℕ) (more : Bool) → ltb i stop ≡ more
-          → (i < stop → hops n at (at i .after) stop ≡ hops m at (at i .after) stop)
-          → hops (suc n) at i stop ≡ hops (suc m) at i stop
-      unfolding hops
-      hops-again n m i true e same = rw e (ap (λ (ls : List Logged). at i ∷ ls) (same (ltb-true i stop e)))
-      hops-again n m i false e same = rw e
+      logged-members-again : (n m i : ℕ) (more : Bool) → ltb i stop ≡ more
+          → (i < stop → loggedMembers n at (at i .after) stop ≡ loggedMembers m at (at i .after) stop)
+          → loggedMembers (suc n) at i stop ≡ loggedMembers (suc m) at i stop
+      unfolding loggedMembers
+      logged-members-again n m i true e same = rw e (ap (λ (ls : List Logged). at i ∷ ls) (same (ltb-true i stop e)))
+      logged-members-again n m i false e same = rw e
 
-      hops-enough : (n m i : ℕ) → stop - i ≤ n → stop - i ≤ m → hops n at i stop ≡ hops m at i stop
-      hops-enough zero m i h k = hops-none zero i (omega arith) ∙ sym (hops-none m i (omega arith))
-      hops-enough (suc n) zero i h k = hops-none (suc n) i (omega arith) ∙ sym (hops-none zero i (omega arith))
-      hops-enough (suc n) (suc m) i h k =
-          hops-again n m i (ltb i stop) refl
-          (λ l. hops-enough n m (at i .after) (omega (arith, onward i l)) (omega (arith, onward i l)))
+      logged-members-enough : (n m i : ℕ) → stop - i ≤ n → stop - i ≤ m → loggedMembers n at i stop ≡ loggedMembers m at i stop
+      logged-members-enough zero m i h k = logged-members-none zero i (omega arith) ∙ sym (logged-members-none m i (omega arith))
+      logged-members-enough (suc n) zero i h k = logged-members-none (suc n) i (omega arith) ∙ sym (logged-members-none zero i (omega arith))
+      logged-members-enough (suc n) (suc m) i h k =
+          logged-members-again n m i (ltb i stop) refl
+          (λ l. logged-members-enough n m (at i .after) (omega (arith, onward i l)) (omega (arith, onward i l)))
 
-      hops-first : (i : ℕ) → i < stop → hops (stop - i) at i stop ≡ at i ∷ hops (stop - at i .after) at (at i .after) stop
-      hops-first i h =
+      logged-members-first : (i : ℕ) → i < stop → loggedMembers (stop - i) at i stop ≡ at i ∷ loggedMembers (stop - at i .after) at (at i .after) stop
+      logged-members-first i h =
           let e : stop - i ≡ suc (stop - i - 1) = omega arith in
-          ap (λ (n : ℕ). hops n at i stop) e
-          ∙ hops-next (stop - i - 1) i (at i) h refl
+          ap (λ (n : ℕ). loggedMembers n at i stop) e
+          ∙ logged-members-next (stop - i - 1) i (at i) h refl
           ∙ ap (λ (ls : List Logged). at i ∷ ls)
-          (hops-enough (stop - i - 1) (stop - at i .after) (at i .after) (omega (arith, onward i h)) (omega arith))
+          (logged-members-enough (stop - i - 1) (stop - at i .after) (at i .after) (omega (arith, onward i h)) (omega arith))
 
       module _ (g : Grammar) (end : ℕ) (counts : List ℕ) (first : Bool) (i : ℕ) where
         -- the member at the position, with the row that names it and what that says
@@ -81,12 +81,12 @@ module _ (at : ℕ → Logged) where
             → o ≡ byAdmission (admitsOthers g) counts first (l .avp) m
             → leftBy at stop g end counts first i ≡ orElse o (leftBy at stop g end (counted counts m) false (l .after))
         unfolding membersBy
-        members-next h l m o e p q = rw (hops-first i h, q, p, e)
+        members-next h l m o e p q = rw (logged-members-first i h, q, p, e)
 
     pub members-none : (g : Grammar) (end : ℕ) (counts : List ℕ) (first : Bool) (i : ℕ) → stop ≤ i
         → leftBy at stop g end counts first i ≡ missing g counts end
     unfolding membersBy
-    members-none g end counts first i h = rw (hops-none (stop - i) i h)
+    members-none g end counts first i h = rw (logged-members-none (stop - i) i h)
 
 -- ---- the first fault of what is said at the positions before `count`
 

@@ -45,7 +45,7 @@ module _ (at : ℕ → Logged) (stop : ℕ) where
   unfolding firstsFrom
   firsts-on n i firsts l h e = rw (lt-ltb i stop h, e)
 
-  -- where each hop goes on, enough steps give the same positions
+  -- where each step goes on, enough steps give the same positions
   module _ (onward : (i : ℕ) → i < stop → i < at i .after) where
     firsts-again : (n m i : ℕ) (firsts : List ℕ) (more : Bool) → ltb i stop ≡ more
         → (i < stop → firstsFrom n at (at i .after) stop (noted firsts (at i .entry) i)

@@ -26,8 +26,8 @@ use Rattle.log.specs.Log.{Logged}
 use Rattle.log.specs.Families.{loggedFrom, Forest, none, family, flat, Placed, IsForest}
 use Rattle.log.proofs.Families.{Level}
 use Rattle.log.proofs.Forests.{level-rest, Stands, stands-at, StandsFamily, stands-family}
-use Rattle.lists.proofs.Members.{hops-none, hops-next}
-use Rattle.lists.specs.ByLog.{admissionAt, hops, membersBy, listBy, groupBy, groupAt, firstFault, rowsBy}
+use Rattle.lists.proofs.Members.{logged-members-none, logged-members-next}
+use Rattle.lists.specs.ByLog.{admissionAt, loggedMembers, membersBy, listBy, groupBy, groupAt, firstFault, rowsBy}
 use Rattle.lists.proofs.Finds.{row-by-entry, members-by-entry}
 
 -- ---- the members of a list, all of which are deeper than `above`
@@ -152,11 +152,11 @@ module _ (entry : ℕ → ℕ → ℕ)
   members-by : (f : Forest) (above : ℕ) (xs : List Avp) (i n stop : ℕ) → Placed (above + 1) f → Level above xs
       → Stands entry at i (flat f ++ xs) → length (flat f) ≤ n → stop ≡ i + length (flat f)
       → (g : Grammar) (end : ℕ) (counts : List ℕ) (first : Bool)
-      → membersBy g end counts first (hops n at i stop)
+      → membersBy g end counts first (loggedMembers n at i stop)
       ≡ membersOutcome g end counts first (membersAt (above + 1) (flat f ++ xs))
   unfolding membersBy membersOutcome memberOutcome
   members-by none above xs i n stop p e s enough last g end counts first =
-      rw (hops-none at stop n i (omega arith), members-end above xs e)
+      rw (logged-members-none at stop n i (omega arith), members-end above xs e)
   members-by (family a members rest) above xs i zero stop p e s enough last g end counts first = absurd (omega arith)
   members-by (family a members rest) above xs i (suc n) stop p e s enough last g end counts first =
       let here = stands-family entry at a members rest above xs i p e s in
@@ -166,7 +166,7 @@ module _ (entry : ℕ → ℕ → ℕ)
       let in-rest =
       members-by rest above xs next n stop (p .2) e (here .behind) (omega arith) (omega arith) g end more false in
       rw (
-        hops-next at stop n i _ (omega arith) (here .first),
+        logged-members-next at stop n i _ (omega arith) (here .first),
         members-family a members rest (above + 1) xs p,
         row-of g (a .vendor) (a .code),
         in-rest,

@@ -26,9 +26,9 @@ admissionAt g = saidAt NoRow (λ d. admission g (d .vendor) (d .code)) dictionar
 
 -- the members of a list in order: the one at position i, the one behind its last descendant, and so on, before position
 -- `stop`. The first argument bounds the steps; as many as there are positions are enough
-unfoldable pub hops : ℕ → (ℕ → Logged) → ℕ → ℕ → List Logged
-hops zero at i stop = []
-hops (suc n) at i stop = cond (ltb i stop) (at i ∷ hops n at (at i .after) stop) []
+unfoldable pub loggedMembers : ℕ → (ℕ → Logged) → ℕ → ℕ → List Logged
+loggedMembers zero at i stop = []
+loggedMembers (suc n) at i stop = cond (ltb i stop) (at i ∷ loggedMembers n at (at i .after) stop) []
 
 -- members in order, with the counts so far, then the first missing row
 unfoldable pub membersBy : Grammar → ℕ → List ℕ → Bool → List Logged → Outcome
@@ -39,7 +39,7 @@ membersBy g end counts first (l ∷ ls) =
 
 -- the list whose members stand from position i on, before position `stop`
 abbrev pub listBy : (ℕ → Logged) → Grammar → ℕ → ℕ → ℕ → Outcome
-listBy at g end i stop = membersBy g end noneMet true (hops (stop - i) at i stop)
+listBy at g end i stop = membersBy g end noneMet true (loggedMembers (stop - i) at i stop)
 
 -- behind the last descendant of the AVP at position i of `count`
 abbrev pub familyEnd : (ℕ → Logged) → ℕ → ℕ → ℕ

@@ -22,7 +22,7 @@ noFirsts = replicate (length dictionary) mostAvps
 unfoldable pub noted : List ℕ → ℕ → ℕ → List ℕ
 noted firsts entry i = cond (ltb entry (length dictionary)) (set firsts entry (min (getD firsts entry 0) i)) firsts
 
--- the members of a list in order, as `hops` has them
+-- the members of a list in order, as `loggedMembers` has them
 unfoldable pub firstsFrom : ℕ → (ℕ → Logged) → ℕ → ℕ → List ℕ → List ℕ
 firstsFrom zero at i stop firsts = firsts
 firstsFrom (suc n) at i stop firsts =

@@ -48,9 +48,14 @@ markAt (suc (suc (suc n))) = AnyNumber
 
 -- ---- the table over the entries
 
--- a number is 32 times a mark and a row; from 24 on it is no row
+-- a number is so many times a mark, and a row; from 24 on it is no row
+abbrev pub admissionMark : ℕ
+admissionMark = 32
+
 unfoldable pub admissionIn : ℕ → Admission
-admissionIn number = cond (leb rowPlaces (number % 32)) NoRow (ByRow (number % 32) (markAt (number / 32)))
+admissionIn number =
+    cond (leb rowPlaces (number % admissionMark)) NoRow
+    (ByRow (number % admissionMark) (markAt (number / admissionMark)))
 
 pub record AdmissionTable (table : List ℕ) : Type 0 where
   pub rule : (g : Grammar) (n entry : ℕ) → ListAt g n → entry < entryPlaces
@@ -63,12 +68,15 @@ pub record Admits (g : Grammar) (entry : ℕ) (r : Admission) : Type 0 where
 
 -- ---- the table of the rows in the printed order
 
--- a number is 64 times a mark and an entry
+-- a number is so many times a mark, and an entry
+abbrev pub rowMark : ℕ
+rowMark = 64
+
 abbrev pub markIn : ℕ → Mark
-markIn number = markAt (number / 64)
+markIn number = markAt (number / rowMark)
 
 unfoldable pub rowIn : ℕ → Row
-rowIn number = record { vendor = vendorOf dictionary (number % 64); code = codeOf dictionary (number % 64); mark = markIn number }
+rowIn number = record { vendor = vendorOf dictionary (number % rowMark); code = codeOf dictionary (number % rowMark); mark = markIn number }
 
 -- behind the last row of a list
 abbrev pub endOfRows : ℕ

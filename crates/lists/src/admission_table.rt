@@ -11,11 +11,11 @@ pub(crate) const NUMBERS: usize = places::LISTS * kinds::ENTRIES;
 // above the last mark; with multiples of 64 the compiled match on the mark is a jump through a table, which is slower.
 pub(crate) const MARK: u8 = 32;
 
-const FIRST: u8 = 0;
+pub(crate) const FIRST: u8 = 0;
 
-const ONCE: u8 = MARK;
+pub(crate) const ONCE: u8 = MARK;
 
-const AT_MOST_ONCE: u8 = 2 * MARK;
+pub(crate) const AT_MOST_ONCE: u8 = 2 * MARK;
 
 const ANY_NUMBER: u8 = 3 * MARK;
 

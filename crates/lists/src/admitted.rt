@@ -10,13 +10,20 @@ use rules::Admission;
 use rules::Grammar;
 use rules::Mark;
 
+// The marks by their numbers, that of any number being the last.
+const FIRST: u8 = admission_table::FIRST / admission_table::MARK;
+
+const ONCE: u8 = admission_table::ONCE / admission_table::MARK;
+
+const AT_MOST_ONCE: u8 = admission_table::AT_MOST_ONCE / admission_table::MARK;
+
 fn mark_of(number: u8) -> Mark
     ensures { λ r. ⌜ r ≡ markAt number ⌝ }
 {
     match number {
-        0 => Mark::First,
-        1 => Mark::Once,
-        2 => Mark::AtMostOnce,
+        FIRST => Mark::First,
+        ONCE => Mark::Once,
+        AT_MOST_ONCE => Mark::AtMostOnce,
         _ => Mark::AnyNumber,
     }
 }

@@ -1,5 +1,5 @@
-// The groups of a command in walk order: the rows of each, and what the exchange rules say of it. Faults of the exchange
-// rules come after those of all rows, so the first of the policies and of the windows are kept.
+// The groups of a command in walk order: the rows of each, and what the exchange rules say of it. Faults of the
+// exchange rules come after those of all rows, so the first of the policies and of the windows are kept.
 ghost use mathlib.Core.Path.{_≡_};
 ghost use Prim.Native.Nat.{_≤_, min};
 ghost use Rattle.rules.specs.Verdict.{orElse};
@@ -15,8 +15,8 @@ use crate::row_table;
 use dictionary::kinds;
 use dictionary::kinds::TimeWindow;
 use dictionary::kinds::TransferPolicy;
-use exchange::answer::policy_outcome;
-use exchange::window::window_outcome;
+use exchange::answer::policy_in;
+use exchange::window::window_in;
 use rules::Members;
 use rules::Outcome;
 use rules::limits;
@@ -58,7 +58,7 @@ fn with_policy(
     if log::depth_at(log, position) != 1 {
         return Outcome::Pass;
     }
-    policy_outcome(firsts, count, log::data_end(log, position))
+    policy_in(firsts, count, log::data_end(log, position))
 }
 
 // The first fault of the time windows, with the group at a position.
@@ -79,7 +79,7 @@ fn with_window(
     if log::entry_at(log, position) != TimeWindow::ENTRY {
         return Outcome::Pass;
     }
-    window_outcome(s, log, firsts, count, log::data_end(log, position))
+    window_in(s, log, firsts, count, log::data_end(log, position))
 }
 
 // Each group in walk order: its list is the AVPs up to its last descendant.

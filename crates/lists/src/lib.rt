@@ -1,7 +1,6 @@
-// The lists of a command over a lent log (01, Order of checks, Rows and Exchange rules). The rows: the command's list,
-// then each group in walk order; within a list the members in order, then the first missing row. The log has the number
-// of each AVP's entry, by which its row is looked up, and the position after its last descendant, where the next member
-// of its list stands. The exchange rules go by the first positions that the pass over a list has kept.
+// The lists of a command over a lent log (01, Order of checks, Rows and Exchange rules): the command's own, then each
+// group in walk order. The log has each AVP's entry, by which its row is looked up, and the position after its last
+// descendant, where the next member stands. The exchange rules go by the first positions that the rows' pass keeps.
 ghost use mathlib.Core.Path.{_≡_};
 ghost use mathlib.Core.Bool.{cond};
 ghost use Prim.Native.Nat.{_≤_, min};

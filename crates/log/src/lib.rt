@@ -9,6 +9,23 @@ ghost use Rattle.log.specs.Log.{logNumbers, bit, putAvp, putFamily, avpO
 use rules::Avp;
 use rules::limits;
 
+// Where the numbers of an AVP stand behind its first, the depth; `END` is that of its data.
+const VENDOR: usize = 1;
+
+const CODE: usize = 2;
+
+const M: usize = 3;
+
+const P: usize = 4;
+
+const START: usize = 5;
+
+const END: usize = 6;
+
+const ENTRY: usize = 7;
+
+const AFTER: usize = 8;
+
 // A flag as a number.
 pub fn bit_of(flag: bool) -> u32
     ensures { λ r. ⌜ r ≡ bit flag ⌝ }
@@ -66,12 +83,12 @@ pub fn put(log: &mut [u32; limits::LOG_NUMBERS], position: usize, a: Avp)
     }
     let at = position * limits::LOGGED_NUMBERS;
     log[at] = a.depth;
-    log[at + 1] = a.vendor;
-    log[at + 2] = a.code;
-    log[at + 3] = bit_of(a.m);
-    log[at + 4] = bit_of(a.p);
-    log[at + 5] = a.start;
-    log[at + 6] = a.start + a.length;
+    log[at + VENDOR] = a.vendor;
+    log[at + CODE] = a.code;
+    log[at + M] = bit_of(a.m);
+    log[at + P] = bit_of(a.p);
+    log[at + START] = a.start;
+    log[at + END] = a.start + a.length;
 }
 
 // Keeps of the AVP at a position the number of its entry, and the position after its last descendant. A position from
@@ -86,8 +103,8 @@ pub fn put_family(log: &mut [u32; limits::LOG_NUMBERS], position: usize, entry: 
         return;
     }
     let at = position * limits::LOGGED_NUMBERS;
-    log[at + 7] = entry as u32;
-    log[at + 8] = after as u32;
+    log[at + ENTRY] = entry as u32;
+    log[at + AFTER] = after as u32;
 }
 
 // The AVP at a position, the blank one from 256 on.
@@ -100,12 +117,12 @@ pub fn get(log: &[u32; limits::LOG_NUMBERS], position: usize) -> Avp
     let at = position * limits::LOGGED_NUMBERS;
     Avp {
         depth: log[at],
-        vendor: log[at + 1],
-        code: log[at + 2],
-        m: log[at + 3] == 1,
-        p: log[at + 4] == 1,
-        start: log[at + 5],
-        length: length_of(log[at + 5], log[at + 6]),
+        vendor: log[at + VENDOR],
+        code: log[at + CODE],
+        m: log[at + M] == 1,
+        p: log[at + P] == 1,
+        start: log[at + START],
+        length: length_of(log[at + START], log[at + END]),
     }
 }
 
@@ -117,8 +134,8 @@ pub fn data_end(log: &[u32; limits::LOG_NUMBERS], position: usize) -> u32
         return 0;
     }
     let at = position * limits::LOGGED_NUMBERS;
-    let start = log[at + 5];
-    let end = log[at + 6];
+    let start = log[at + START];
+    let end = log[at + END];
     if end < start {
         return start;
     }
@@ -144,20 +161,20 @@ pub fn is_named(log: &[u32; limits::LOG_NUMBERS], position: usize, vendor: u32, 
         return avp::is_named(avp::blank(), vendor, code);
     }
     let at = position * limits::LOGGED_NUMBERS;
-    avp::is_same_name(log[at + 1], log[at + 2], vendor, code)
+    avp::is_same_name(log[at + VENDOR], log[at + CODE], vendor, code)
 }
 
-// The number of an entry where there is no position, and where it is above that of any octet.
+// What stands for the number of an entry from position 256 on, and where it is no octet; no entry has it.
 const NO_NUMBER: u8 = 255;
 
-// The number of the entry of the AVP at a position; `NO_NUMBER` where there is none, or one that is no octet.
+// The number of the entry of the AVP at a position.
 pub fn entry_at(log: &[u32; limits::LOG_NUMBERS], position: usize) -> u8
     ensures { λ r. ⌜ r ≡ entryAt (now (log .entry)) position ⌝ }
 {
     if limits::MOST_AVPS <= position {
         return NO_NUMBER;
     }
-    let number = log[position * limits::LOGGED_NUMBERS + 7];
+    let number = log[position * limits::LOGGED_NUMBERS + ENTRY];
     if (NO_NUMBER as u32) < number {
         return NO_NUMBER;
     }
@@ -165,7 +182,7 @@ pub fn entry_at(log: &[u32; limits::LOG_NUMBERS], position: usize) -> u8
 }
 
 // A number of four octets as a position.
-fn position_of(number: u32) -> usize
+fn as_position(number: u32) -> usize
     ensures { λ r. ⌜ r ≡ number ⌝ }
 {
     number as usize
@@ -178,7 +195,7 @@ pub fn after_at(log: &[u32; limits::LOG_NUMBERS], position: usize) -> usize
     if limits::MOST_AVPS <= position {
         return limits::MOST_AVPS;
     }
-    let after = position_of(log[position * limits::LOGGED_NUMBERS + 8]);
+    let after = as_position(log[position * limits::LOGGED_NUMBERS + AFTER]);
     if after <= position {
         return position + 1;
     }

@@ -1,5 +1,5 @@
 // A record as numbers in a lent array: written whole, also straight from a command and its log, and read place by
-// place, so that no record is made to write a command's or to read one AVP.
+// place, so that no record is made to write a command's numbers or to read one AVP.
 ghost use mathlib.Core.Path.{_≡_};
 ghost use mathlib.Core.List.{[]};
 ghost use Prim.Native.Nat.{_-_, _≤_, _<_, min};
@@ -68,6 +68,7 @@ fn put_avp(numbers: &mut [u32; limits::RECORD_NUMBERS], position: usize, a: Avp)
     numbers[at + 6] = a.length;
 }
 
+// The numbers of a record.
 pub fn put(numbers: &mut [u32; limits::RECORD_NUMBERS], record: Record)
     ensures { λ _. ⌜ now (numbers .exit) ≡ numbersOf «record» ⌝ }
 {
@@ -104,7 +105,7 @@ fn put_logged(
     }
 }
 
-// 0 at each position from one on.
+// 0 at each position from `start` on.
 fn put_blanks(numbers: &mut [u32; limits::RECORD_NUMBERS], start: usize)
     ensures { λ _. ⌜ now (numbers .exit) ≡ putAvps (now (numbers .entry)) start (replicate (mostAvps - start) blank) ⌝ }
 {

@@ -13,8 +13,8 @@ mod header;
 mod judge;
 mod record;
 
-// What judging a command gives: the outcome of its checks, and how many AVPs a whole walk met, 0 after a fault of header
-// or walk.
+// What judging a command gives: the outcome of its checks, and how many AVPs a whole walk met, 0 after a fault of
+// header or walk.
 pub struct Judgement {
     pub outcome: Outcome,
     pub count: usize,

@@ -1,7 +1,6 @@
--- 01, Exchange rules (clause 4.4.1), over the AVPs of the walk: those of a request, those of an answer, and the
--- windows. `find` is the search of a list, where nothing else is said the command's own, and `end` the end of that
--- list. The definitions answer for every list of AVPs; where walk or rows have refused a command before, the comment
--- says so.
+-- 01, Exchange rules (clause 4.4.1), over the AVPs of the walk: of a request, of an answer, and the windows. `find` is
+-- the search of a list, where nothing else is said the command's own, and `end` the end of that list. The definitions
+-- answer for every list of AVPs; where walk or rows have refused a command before, the comment says so.
 use Prim.Native.Nat.{ℕ, _+_}
 use mathlib.Core.List.{List, [], _∷_}
 use mathlib.Core.Bool.{Bool, cond}

@@ -24,7 +24,7 @@ use Rattle.rules.proofs.Octets.{numberAt-part}
 use Rattle.rules.proofs.Fields.{avpAt-by}
 use Rattle.rules.proofs.Passed.{Framed, framed}
 use Rattle.rules.proofs.Walk.{by-cases, framing-left, framing-vendor-left, framing-by, checked-frame, checked-on}
-use Rattle.walk.specs.declared.check.Met.the-variants.{Faulty, Basic, Grouped}
+use Rattle.walk.specs.declared.check.CheckedEntry.the-variants.{Faulty, Basic, Grouped}
 use Rattle.walk.specs.declared.frame.Frame.{Frame}
 use Rattle.walk.specs.declared.frame.Frame.the-variants.{Holds, Broken}
 use Rattle.walk.specs.Promise.{InList, withNumber, withEntry, frameOf, misfit, avpBy}
@@ -71,27 +71,27 @@ module _ (s : List ℕ) (w : Standing) where
 
 -- ---- what the checks give, with the number of the entry
 
-pub met-with : (entry : ℕ → ℕ → ℕ) (o : Outcome) (b : Bool) (a : Avp) (n : ℕ) → n ≡ entry (a .vendor) (a .code)
+pub checked-with : (entry : ℕ → ℕ → ℕ) (o : Outcome) (b : Bool) (a : Avp) (n : ℕ) → n ≡ entry (a .vendor) (a .code)
     → withNumber n (settled o (cond b (Group a) (Plain a))) ≡ withEntry entry (settled o (cond b (Group a) (Plain a)))
-met-with entry Pass true a n e = ap (Grouped a) e
-met-with entry Pass false a n e = ap (Basic a) e
-met-with entry (Refused v) b a n e = refl
+checked-with entry Pass true a n e = ap (Grouped a) e
+checked-with entry Pass false a n e = ap (Basic a) e
+checked-with entry (Refused v) b a n e = refl
 
 module _ (entry : ℕ → ℕ → ℕ) where
-  pub met-faulty : (c : Checked) (v : Verdict) → Faulty v ≡ withEntry entry c → c ≡ Fault v
-  met-faulty (Fault u) v e = cc
-  met-faulty (Plain a) v e = let z : _≡_ {A = ℕ} 0 1 = cc in absurd (omega arith)
-  met-faulty (Group a) v e = let z : _≡_ {A = ℕ} 0 1 = cc in absurd (omega arith)
+  pub checked-faulty : (c : Checked) (v : Verdict) → Faulty v ≡ withEntry entry c → c ≡ Fault v
+  checked-faulty (Fault u) v e = cc
+  checked-faulty (Plain a) v e = let z : _≡_ {A = ℕ} 0 1 = cc in absurd (omega arith)
+  checked-faulty (Group a) v e = let z : _≡_ {A = ℕ} 0 1 = cc in absurd (omega arith)
 
-  pub met-basic : (c : Checked) (a : Avp) (n : ℕ) → Basic a n ≡ withEntry entry c → (c ≡ Plain a) × (n ≡ entry (a .vendor) (a .code))
-  met-basic (Fault v) a n e = let z : _≡_ {A = ℕ} 0 1 = cc in absurd (omega arith)
-  met-basic (Plain b) a n e = (cc, cc)
-  met-basic (Group b) a n e = let z : _≡_ {A = ℕ} 0 1 = cc in absurd (omega arith)
+  pub checked-basic : (c : Checked) (a : Avp) (n : ℕ) → Basic a n ≡ withEntry entry c → (c ≡ Plain a) × (n ≡ entry (a .vendor) (a .code))
+  checked-basic (Fault v) a n e = let z : _≡_ {A = ℕ} 0 1 = cc in absurd (omega arith)
+  checked-basic (Plain b) a n e = (cc, cc)
+  checked-basic (Group b) a n e = let z : _≡_ {A = ℕ} 0 1 = cc in absurd (omega arith)
 
-  pub met-grouped : (c : Checked) (a : Avp) (n : ℕ) → Grouped a n ≡ withEntry entry c → (c ≡ Group a) × (n ≡ entry (a .vendor) (a .code))
-  met-grouped (Fault v) a n e = let z : _≡_ {A = ℕ} 0 1 = cc in absurd (omega arith)
-  met-grouped (Plain b) a n e = let z : _≡_ {A = ℕ} 0 1 = cc in absurd (omega arith)
-  met-grouped (Group b) a n e = (cc, cc)
+  pub checked-grouped : (c : Checked) (a : Avp) (n : ℕ) → Grouped a n ≡ withEntry entry c → (c ≡ Group a) × (n ≡ entry (a .vendor) (a .code))
+  checked-grouped (Fault v) a n e = let z : _≡_ {A = ℕ} 0 1 = cc in absurd (omega arith)
+  checked-grouped (Plain b) a n e = let z : _≡_ {A = ℕ} 0 1 = cc in absurd (omega arith)
+  checked-grouped (Group b) a n e = (cc, cc)
 
 -- ---- the fields of an AVP, read from the rest of its list
 

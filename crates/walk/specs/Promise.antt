@@ -22,8 +22,8 @@ use Rattle.rules.specs.Command.{walkBy}
 use Rattle.dictionary.specs.Table.{entryBy}
 use Rattle.log.specs.Log.{noNumber, putAll}
 use Rattle.log.specs.Families.{loggedFrom, Keeps, IsForest}
-use Rattle.walk.specs.declared.check.Met.{Met}
-use Rattle.walk.specs.declared.check.Met.the-variants.{Faulty, Basic, Grouped}
+use Rattle.walk.specs.declared.check.CheckedEntry.{CheckedEntry}
+use Rattle.walk.specs.declared.check.CheckedEntry.the-variants.{Faulty, Basic, Grouped}
 use Rattle.walk.specs.declared.frame.Frame.{Frame}
 use Rattle.walk.specs.declared.frame.Frame.the-variants.{Holds, Broken}
 use Rattle.walk.specs.declared.Walk.{Walk}
@@ -75,13 +75,13 @@ abbrev pub numberBy : List ℕ → ℕ → ℕ → ℕ
 numberBy table vendor code = min (entryBy table vendor code) noNumber
 
 -- what the checks of an AVP give, with the number of its entry
-abbrev pub withNumber : ℕ → Checked → Met
+abbrev pub withNumber : ℕ → Checked → CheckedEntry
 withNumber number (Fault v) = Faulty v
 withNumber number (Plain a) = Basic a number
 withNumber number (Group a) = Grouped a number
 
 -- the same, where `entry` gives the number of a name's entry
-abbrev pub withEntry : (ℕ → ℕ → ℕ) → Checked → Met
+abbrev pub withEntry : (ℕ → ℕ → ℕ) → Checked → CheckedEntry
 withEntry entry (Fault v) = Faulty v
 withEntry entry (Plain a) = Basic a (entry (a .vendor) (a .code))
 withEntry entry (Group a) = Grouped a (entry (a .vendor) (a .code))
@@ -123,8 +123,8 @@ pub record ListWalked (dict : List Entry) (entry : ℕ → ℕ → ℕ) (s : Lis
 unfoldable pub commandWalk : List Entry → List ℕ → Walked
 commandWalk dict s = cond (ltb longestCommand (length s)) (stopped [] (verdict 7001 1 0 0)) (walkBy dict s)
 
--- a log after a whole walk of so many AVPs: it holds them with their families, where the entries' numbers are octets, as
--- those by any table are
+-- a log after a whole walk of so many AVPs: it holds them with their families, where the entries' numbers are octets,
+-- as those by any table are
 pub record IsKept (dict : List Entry) (entry : ℕ → ℕ → ℕ) (s log : List ℕ) (c : ℕ) : Type 0 where
   pub number : c ≡ length (avpsOf (commandWalk dict s))
   pub kept : ((vendor code : ℕ) → entry vendor code ≤ noNumber) → Keeps log (loggedFrom entry 0 (avpsOf (commandWalk dict s)))

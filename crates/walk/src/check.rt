@@ -28,7 +28,7 @@ use rules::flags;
 use rules::limits;
 
 // What the checks of an AVP give, as `Checked`, with the number of the entry of an AVP that passed.
-pub(crate) enum Met {
+pub(crate) enum CheckedEntry {
     Faulty(Verdict),
     Basic { avp: Avp, entry: u8 },
     Grouped { avp: Avp, entry: u8 },
@@ -141,22 +141,22 @@ fn content(s: &[u8], at: usize, a: Avp, entry: u8) -> Outcome
 }
 
 // Checks 3 to 7 of the AVP at a place, with the entry of its name, and whether its data is a list.
-fn judged(s: &[u8], at: usize, a: Avp, entry: u8) -> Met
+fn judged(s: &[u8], at: usize, a: Avp, entry: u8) -> CheckedEntry
     requires { ⌜ (at + headerOf false ≤ length (now s)) × (at ≤ longestCommand) ⌝ }
     ensures { λ r. ⌜ r ≡ withNumber entry (checkedWith (now (s .entry)) at a (definitionAt dictionary entry)) ⌝ }
 {
     let outcome = content(s, at, a, entry);
     if let Outcome::Refused(v) = outcome {
-        return Met::Faulty(v);
+        return CheckedEntry::Faulty(v);
     }
     if dictionary::is_group(entry) {
-        return Met::Grouped { avp: a, entry };
+        return CheckedEntry::Grouped { avp: a, entry };
     }
-    Met::Basic { avp: a, entry }
+    CheckedEntry::Basic { avp: a, entry }
 }
 
 // The same, by a table of plain codes, which leads to the entry.
-fn looked_up(s: &[u8], table: &[u8; plain::PLAIN_CODES], at: usize, a: Avp) -> Met
+fn looked_up(s: &[u8], table: &[u8; plain::PLAIN_CODES], at: usize, a: Avp) -> CheckedEntry
     requires { ⌜ (at + headerOf false ≤ length (now s)) × (at ≤ longestCommand) ⌝ }
     ensures { λ r. ⌜ r ≡ withEntry (numberBy (now (table .entry))) (checkedAvp (dictionaryBy (now (table .entry))) (now (s .entry)) at a) ⌝ }
 {
@@ -172,16 +172,16 @@ pub(crate) fn check(
     end: usize,
     depth: u32,
     count: usize,
-) -> Met
+) -> CheckedEntry
     requires { ⌜ InList (now s) at end ⌝ }
     ensures { λ r. ⌜ r ≡ withEntry (numberBy (now (table .entry))) (checked (dictionaryBy (now (table .entry))) (now (s .entry)) (standing at end depth count)) ⌝ }
 {
     if limits::MOST_AVPS <= count {
-        return Met::Faulty(frame::fault(7002, at, 0, 0));
+        return CheckedEntry::Faulty(frame::fault(7002, at, 0, 0));
     }
     let framed = frame::framed(s, at, end, depth);
     match framed {
         Frame::Holds(a) => looked_up(s, table, at, a),
-        Frame::Broken(v) => Met::Faulty(v),
+        Frame::Broken(v) => CheckedEntry::Faulty(v),
     }
 }

@@ -4,7 +4,7 @@ ghost use Rattle.rules.specs.Walk.{standing};
 ghost use mathlib.Core.Path.{_≡_};
 ghost use Rattle.dictionary.specs.Table.{dictionaryBy};
 ghost use Rattle.walk.specs.Promise.{numberBy, StandsIn, metIn, stepTo, AvpWalked, ListWalked, CommandWalked};
-use crate::check::Met;
+use crate::check::CheckedEntry;
 use dictionary::plain;
 use rules::Verdict;
 use rules::limits;
@@ -60,8 +60,8 @@ fn walk_avp(
 {
     let met = check::check(s, table, at, end, depth, count);
     match met {
-        Met::Faulty(verdict) => Step::Halted { count, verdict },
-        Met::Basic { avp: a, entry } => {
+        CheckedEntry::Faulty(verdict) => Step::Halted { count, verdict },
+        CheckedEntry::Basic { avp: a, entry } => {
             log::put(log, count, a);
             log::put_family(log, count, entry, count + 1);
             Step::On {
@@ -69,7 +69,7 @@ fn walk_avp(
                 next: frame::next_after(a),
             }
         }
-        Met::Grouped { avp: a, entry } => {
+        CheckedEntry::Grouped { avp: a, entry } => {
             log::put(log, count, a);
             let start = a.start as usize;
             let length = a.length as usize;

@@ -8,20 +8,20 @@ use Rattle.log.proofs.after_at.Tie as tie
 returns : tie.Need-returns
 returns c = sym (afterAt-out (c .before .args .log .now) (c .before .args .position) (c .if1 .taken))
 
-mul-position-of : tie.Need-mul-position-of
-mul-position-of c = search needs
+mul-as-position : tie.Need-mul-as-position
+mul-as-position c = search needs
 
-add-position-of : tie.Need-add-position-of
-add-position-of c = search needs
+add-as-position : tie.Need-add-as-position
+add-as-position c = search needs
 
-mul-position-of-2 : tie.Need-mul-position-of-2
-mul-position-of-2 c = search needs
+mul-as-position-2 : tie.Need-mul-as-position-2
+mul-as-position-2 c = search needs
 
-element-copy-out-position-of : tie.Need-element-copy-out-position-of
-element-copy-out-position-of c = search needs
+element-copy-out-as-position : tie.Need-element-copy-out-as-position
+element-copy-out-as-position c = search needs
 
-position-of-requires : tie.Need-position-of-requires
-position-of-requires c κs = search needs
+as-position-requires : tie.Need-as-position-requires
+as-position-requires c κs = search needs
 
 add-result : tie.Need-add-result
 add-result c = search needs
@@ -29,13 +29,13 @@ add-result c = search needs
 returns-2 : tie.Need-returns-2
 returns-2 c =
     let s = c .before .before .before in
-    let told = c .before .position-of .ensures in
+    let told = c .before .as-position .ensures in
     sym (after-next (s .before .args .log .now) (s .before .args .position) (s .if1 .left) (rw told at (c .if2 .taken)))
 
 returns-3 : tie.Need-returns-3
 returns-3 c =
     let s = c .before .before .before in
-    let told = c .before .position-of .ensures in
+    let told = c .before .as-position .ensures in
     told ∙ sym (after-told (s .before .args .log .now) (s .before .args .position) (s .if1 .left) (rw told at (c .if2 .left)))
 
 pub after-at-spec : {M : Type 1} → statement M
@@ -43,11 +43,11 @@ after-at-spec =
     tie.close
     (tie.spec
     returns
-    mul-position-of
-    add-position-of
-    mul-position-of-2
-    element-copy-out-position-of
-    position-of-requires
+    mul-as-position
+    add-as-position
+    mul-as-position-2
+    element-copy-out-as-position
+    as-position-requires
     add-result
     returns-2
     returns-3)

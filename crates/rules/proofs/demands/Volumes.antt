@@ -88,8 +88,8 @@ module _ (xs : List Avp) where
           rw (required end (b .provider), volumed end (inl (i, b .total)), beside i (b .total) (b .beside))
 
       -- 02 [2]: "A BTR with 4203 = 0 that has 421 together with 412 or 414 is refused at its 421 [...] 5008, right
-      -- after the check that a volume is present and before 4209". Whatever else it has or lacks, once its rows are met.
-      -- Carried by demand-2-first-fault (Order) and search-first (Found).
+      -- after the check that a volume is present and before 4209". Whatever else it has or lacks, once its rows are
+      -- met. Carried by demand-2-first-fault (Order) and search-first (Found).
       -- Ruled out: a reader that asks for 4209 first; one that refuses at the direction's place or by its name.
       pub request-2-beside : headerOutcome c ≡ Pass → walkOf c ≡ whole xs → ownRows c xs ≡ Pass → groupRows c xs ≡ Pass
           → commandVerdict c ≡ verdict 5008 (placeOf (avpIn xs i)) 0 421

@@ -11,7 +11,7 @@ use Rattle.rules.specs.Dictionary.{Entry}
 use Rattle.rules.specs.Walk.{Standing, standing, checked}
 use Rattle.rules.proofs.Passed.{group-framed}
 use Rattle.walk.specs.Promise.{numberBy}
-use Rattle.walk.proofs.Framing.{met-faulty, met-basic, met-grouped}
+use Rattle.walk.proofs.Framing.{checked-faulty, checked-basic, checked-grouped}
 use Rattle.walk.proofs.OneAvp.{group-level, group-few, fault-walked, plain-walked, group-walked}
 use Rattle.walk.proofs.Along.{Turn, turn-start, turn-again, turn-stopped, turn-end}
 use borrow.Fn.Kinds.{In}
@@ -126,7 +126,7 @@ group-told : (t : ℕ) (g : walk-avp-lts.After-met3 (walk-avp-claims t) (walk-av
 group-told t g =
     let k = g .before .before in
     let st = k .before .before in
-    met-grouped (numbers t st) (checked (dict t st) (st .args .s .now) (here t st)) _ _ (sym (g .met3 .given .1) ∙ k .check .ensures)
+    checked-grouped (numbers t st) (checked (dict t st) (st .args .s .now) (here t st)) _ _ (sym (g .met3 .given .1) ∙ k .check .ensures)
 
 group-checked : (t : ℕ) (g : walk-avp-lts.After-met3 (walk-avp-claims t) (walk-avp-at t) walk-avp.Post) →
     let st = g .before .before .before .before in
@@ -178,7 +178,7 @@ walk-avp-returns t c =
     let st = k .before .before in
     let a = st .args in
     fault-walked (dict t st) (numbers t st) (a .s .now) (here t st) (a .log .now) _
-    (met-faulty (numbers t st) (checked (dict t st) (a .s .now) (here t st)) _ (sym (c .before .met .given .1) ∙ k .check .ensures))
+    (checked-faulty (numbers t st) (checked (dict t st) (a .s .now) (here t st)) _ (sym (c .before .met .given .1) ∙ k .check .ensures))
 
 walk-avp-returns-2 : (t : ℕ) → walk-avp-lts.Need-returns-2 (walk-avp-claims t) (walk-avp-at t) walk-avp.Post
 walk-avp-returns-2 t c =
@@ -188,7 +188,7 @@ walk-avp-returns-2 t c =
     let k = g .before .before in
     let st = k .before .before in
     let a = st .args in
-    let e = met-basic (numbers t st) (checked (dict t st) (a .s .now) (here t st)) _ _ (sym (g .met2 .given .1) ∙ k .check .ensures) in
+    let e = checked-basic (numbers t st) (checked (dict t st) (a .s .now) (here t st)) _ _ (sym (g .met2 .given .1) ∙ k .check .ensures) in
     rw (c .next-after .ensures)
     (plain-walked (dict t st) (numbers t st) (a .s .now) (here t st) (a .log .now) _ (p .put .ensures) (e .1) (e .0) _
     (f .put-family .ensures))

@@ -49,8 +49,8 @@ returns-3 c =
 data-end-requires : tie.Need-data-end-requires
 data-end-requires c κs = search needs
 
-policy-outcome-requires : tie.Need-policy-outcome-requires
-policy-outcome-requires c κs = search needs
+policy-in-requires : tie.Need-policy-in-requires
+policy-in-requires c κs = search needs
 
 returns-4 : tie.Need-returns-4
 unfolding dictionary numberWhere
@@ -68,7 +68,7 @@ returns-4 c =
       eq-eqb _ _ (f .if2 .left),
       ← c .before .data-end .ensures,
     )
-    (rw few at (c .policy-outcome .ensures .is))
+    (rw few at (c .policy-in .ensures .is))
 
 pub with-policy-spec : {M : Type 1} → statement M
 with-policy-spec =
@@ -82,5 +82,5 @@ with-policy-spec =
     depth-at-requires
     returns-3
     data-end-requires
-    policy-outcome-requires
+    policy-in-requires
     returns-4)

@@ -32,8 +32,8 @@ returns-2 c =
 data-end-requires : tie.Need-data-end-requires
 data-end-requires c κs = search needs
 
-window-outcome-requires : tie.Need-window-outcome-requires
-window-outcome-requires c κs = search needs
+window-in-requires : tie.Need-window-in-requires
+window-in-requires c κs = search needs
 
 returns-3 : tie.Need-returns-3
 unfolding dictionary numberWhere
@@ -48,7 +48,7 @@ returns-3 c =
       eq-eqb _ _ (t .if1 .left),
       ← c .before .data-end .ensures,
     )
-    (rw few at (c .window-outcome .ensures .is))
+    (rw few at (c .window-in .ensures .is))
 
 pub with-window-spec : {M : Type 1} → statement M
 with-window-spec =
@@ -60,5 +60,5 @@ with-window-spec =
     entry-at-requires
     returns-2
     data-end-requires
-    window-outcome-requires
+    window-in-requires
     returns-3)

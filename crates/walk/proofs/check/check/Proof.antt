@@ -2,7 +2,7 @@
 use borrow.Author.Needs.{needs}
 use mathlib.Core.Path.{sym, ap, _∙_}
 use native.Mathlib.Omega.{arith}
-use Rattle.walk.specs.declared.check.Met.the-variants.{Faulty}
+use Rattle.walk.specs.declared.check.CheckedEntry.the-variants.{Faulty}
 use Rattle.dictionary.specs.Table.{dictionaryBy}
 use Rattle.rules.specs.Walk.{Standing, standing}
 use Rattle.rules.proofs.Walk.{checked-many}

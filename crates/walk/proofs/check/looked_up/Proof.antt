@@ -9,7 +9,7 @@ use Rattle.dictionary.specs.Entries.{definitionAt}
 use Rattle.dictionary.specs.Table.{dictionaryBy}
 use Rattle.dictionary.proofs.Table.{by-table}
 use Rattle.walk.specs.Promise.{numberBy}
-use Rattle.walk.proofs.Framing.{met-with}
+use Rattle.walk.proofs.Framing.{checked-with}
 use Rattle.walk.proofs.check.looked_up.Statement.{statement}
 use Rattle.walk.proofs.check.looked_up.Tie as tie
 
@@ -28,7 +28,7 @@ returns c =
     by-table (a .table .now) (a .a .vendor) (a .a .code) ∙ ap (definitionAt dictionary) (sym (x .entry-by .ensures)) in
     let octet : x .entry-by .result ≡ numberBy (a .table .now) (a .a .vendor) (a .a .code) = omega (arith, x .entry-by) in
     c .judged .ensures
-    ∙ rw says (met-with (numberBy (a .table .now)) (contents (a .s .now) (a .at) (a .a) d) (isGroup d) (a .a) _ octet)
+    ∙ rw says (checked-with (numberBy (a .table .now)) (contents (a .s .now) (a .at) (a .a) d) (isGroup d) (a .a) _ octet)
 
 pub looked-up-spec : {M : Type 1} → statement M
 looked-up-spec = tie.close (tie.spec entry-by-requires judged-requires returns)

@@ -1,4 +1,4 @@
--- `exchange::window::window_outcome` meets its contract.
+-- `exchange::window::window_in` meets its contract.
 use mathlib.Core.Path.{_≡_, sym, ap, _∙_}
 use borrow.Author.Needs.{needs}
 use Rattle.rules.specs.Dictionary.{dictionary}
@@ -8,8 +8,8 @@ use Rattle.log.specs.Log.{avpsIn}
 use Rattle.log.proofs.Log.{avps-used}
 use Rattle.exchange.specs.Firsts.{findIn}
 use Rattle.exchange.proofs.Rules.{window-no-start, window-no-end, window-both}
-use Rattle.exchange.proofs.window.window_outcome.Statement.{statement}
-use Rattle.exchange.proofs.window.window_outcome.Tie as tie
+use Rattle.exchange.proofs.window.window_in.Statement.{statement}
+use Rattle.exchange.proofs.window.window_in.Tie as tie
 
 used-requires : tie.Need-used-requires
 used-requires c κs = search needs
@@ -86,8 +86,8 @@ returns-3 c =
     answers _ _ _
     (rw (← avps (f .before), ← f .before .used .ensures) (c .times-by .ensures ∙ window-both _ _ _ _ _ start _ end))
 
-pub window-outcome-spec : {M : Type 1} → statement M
-window-outcome-spec =
+pub window-in-spec : {M : Type 1} → statement M
+window-in-spec =
     tie.close
     (tie.spec
     used-requires

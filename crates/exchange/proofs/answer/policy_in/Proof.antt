@@ -1,12 +1,12 @@
--- `exchange::answer::policy_outcome` meets its contract.
+-- `exchange::answer::policy_in` meets its contract.
 use mathlib.Core.Path.{sym, _∙_}
 use borrow.Author.Needs.{needs}
 use Rattle.rules.specs.Exchange.{policyIn}
 use Rattle.rules.specs.Dictionary.{dictionary}
 use Rattle.rules.proofs.Outcomes.{answers}
 use Rattle.dictionary.specs.Entries.{vendorOf, codeOf}
-use Rattle.exchange.proofs.answer.policy_outcome.Statement.{statement}
-use Rattle.exchange.proofs.answer.policy_outcome.Tie as tie
+use Rattle.exchange.proofs.answer.policy_in.Statement.{statement}
+use Rattle.exchange.proofs.answer.policy_in.Tie as tie
 
 used-requires : tie.Need-used-requires
 used-requires c κs = search needs
@@ -38,7 +38,7 @@ returns-2 c =
     let window = sym (r .require .ensures) ∙ p .enum-told .given .1 in
     answers _ _ _ (rw (← r .before .used .ensures, window) (c .require2 .ensures))
 
-pub policy-outcome-spec : {M : Type 1} → statement M
-policy-outcome-spec =
+pub policy-in-spec : {M : Type 1} → statement M
+policy-in-spec =
     tie.close
     (tie.spec used-requires require-requires enum-told enum-told-2 returns require-requires-2 returns-2)
