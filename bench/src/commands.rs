@@ -4,6 +4,7 @@
 use ::commands::S;
 use second_reader::generate::{command, Prng};
 use second_reader::LONGEST_BOOK;
+use std::iter;
 use std::ops::RangeInclusive;
 
 /// The sizes: a name, and the lengths of the commands.
@@ -86,6 +87,13 @@ pub fn by_size(mixes: &[Mix]) -> Vec<(&'static str, Vec<&[u8]>)> {
             (mixes[0].size, in_turn.collect())
         })
         .collect()
+}
+
+/// The books that are listed, with their names: one without commands, and one of the commands of each size.
+pub fn books(mixes: &[Mix]) -> Vec<(String, Vec<u8>)> {
+    let of_size = |(size, commands): (_, Vec<_>)| (format!("65,536 octets, commands of {size}"), book(&commands));
+    let empty = ("no command".to_string(), book(&[]));
+    iter::once(empty).chain(by_size(mixes).into_iter().map(of_size)).collect()
 }
 
 /// A book of these commands, again and again until none of them fits any more.

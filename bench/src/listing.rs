@@ -1,9 +1,9 @@
 //! Listings of books. The proved listing has no exported function, so whole processes are measured, start and end
 //! among it: the program `verdicts`, and `bench listing`, which prints the second reader's listing.
 
-use crate::commands::{book, by_size, Mix};
-use crate::summary::{median, Line};
-use crate::turns::{turns, Effort, Turns};
+use crate::commands::{books, Mix};
+use crate::summary::Line;
+use crate::turns::{turns, Effort};
 use std::env;
 use std::fs::{self, File};
 use std::io::{self, Read, Write};
@@ -32,13 +32,10 @@ pub fn print_second() -> io::Result<()> {
 }
 
 /// The lines of the listings, with the programs for the proved and the second ones. The book without commands says what
-/// start and end of a process come to, which is most of what the others take; so it is taken off them too.
+/// start and end of a process come to; that is most of what the others take.
 pub fn lines(mixes: &[Mix], effort: Effort, verdicts: &Path, bench: &Path) -> Result<Vec<Line>, String> {
-    let of_size = |(size, commands): (_, Vec<_>)| (format!("65,536 octets, commands of {size}"), book(&commands));
-    let mut books = vec![("no command".to_string(), book(&[]))];
-    books.extend(by_size(mixes).into_iter().map(of_size));
-    let mut listings = Vec::new();
-    for (row, book) in books {
+    let mut lines = Vec::new();
+    for (row, book) in books(mixes) {
         let book = Book::write(&book).map_err(|error| format!("a book cannot be written: {error}"))?;
         let mut ours = Command::new(verdicts);
         let mut theirs = Command::new(bench);
@@ -46,22 +43,10 @@ pub fn lines(mixes: &[Mix], effort: Effort, verdicts: &Path, bench: &Path) -> Re
         if book.listing(&mut ours)? != book.listing(&mut theirs)? {
             return Err(format!("{}: another listing than the second reader's, {row}", verdicts.display()));
         }
-        listings.push((row, turns(effort, || book.list(&mut ours), || book.list(&mut theirs))));
+        let turns = turns(effort, || book.list(&mut ours), || book.list(&mut theirs));
+        lines.push(Line::new("listing of a book, whole processes", &row, turns.ratios));
     }
-    Ok(both_ways(&listings))
-}
-
-/// The lines of these listings, the first of which is that of the book without commands.
-fn both_ways(listings: &[(String, Turns)]) -> Vec<Line> {
-    let whole =
-        |(row, turns): &(String, Turns)| Line::new("listing of a book, whole processes", row, turns.ratios.clone());
-    let empty = &listings[0].1;
-    let beyond = |(row, turns): &(String, Turns)| {
-        let ours = median(&turns.ours) - median(&empty.ours);
-        let theirs = median(&turns.theirs) - median(&empty.theirs);
-        Line::new("listing of a book, less that of one without commands", row, vec![ours / theirs])
-    };
-    listings.iter().map(whole).chain(listings[1..].iter().map(beyond)).collect()
+    Ok(lines)
 }
 
 /// A book in a file, which goes with it.

@@ -19,8 +19,6 @@ pub struct Turns {
     pub ratios: Vec<f64>,
     /// The seconds of our work done once, of each round.
     pub ours: Vec<f64>,
-    /// The seconds of theirs.
-    pub theirs: Vec<f64>,
 }
 
 /// Does both works in turn, as often as their turn wants it. A round has two turns of each, ours, theirs, theirs, ours,
@@ -36,7 +34,6 @@ pub fn turns(effort: Effort, mut ours: impl FnMut(), mut theirs: impl FnMut()) -
         let ours = first.min(time(times, &mut ours));
         turns.ratios.push(ours / theirs);
         turns.ours.push(ours / times as f64);
-        turns.theirs.push(theirs / times as f64);
     }
     turns
 }

@@ -168,8 +168,6 @@ fn every_size_has_its_listing() {
             let rows = rows_of(&lines, "listing of a book, whole processes");
             let last = "65,536 octets, commands of near 16,384 octets";
             assert_eq!((rows.len(), rows[0], rows[3]), (4, "no command", last));
-            let rows = rows_of(&lines, "listing of a book, less that of one without commands");
-            assert_eq!((rows.len(), rows[2]), (3, last));
         }
         Err(words) => assert!(words.contains("is not there") && words.contains(listing::PROGRAM), "{words}"),
     }

@@ -1,17 +1,19 @@
 //! One reading many times, for callgrind: `instructions READING COMMAND TIMES`. The command is S, L or a file with its
-//! octets. `instructions write DIR` writes the bench's own commands there, one to a file.
+//! octets. `instructions write DIR` writes the bench's own commands there, one to a file, and `instructions books DIR`
+//! its books.
 
 use std::hint::black_box;
 use std::process::ExitCode;
 
 const USAGE: &str = "usage: instructions proved-verdict|proved-record|second-verdict|second-record S|L|FILE TIMES, \
-                     or instructions write DIR";
+                     or instructions write|books DIR";
 
 fn main() -> ExitCode {
     let words: Vec<String> = std::env::args().skip(1).collect();
     let words: Vec<&str> = words.iter().map(String::as_str).collect();
     let done = match words[..] {
         ["write", folder] => write(folder),
+        ["books", folder] => write_books(folder),
         [reading, command, times] => repeat(reading, command, times),
         _ => Err(USAGE.to_string()),
     };
@@ -30,6 +32,14 @@ fn write(folder: &str) -> Result<(), String> {
             let file = format!("{folder}/{}-{i:02}", mix.name().replace([' ', ','], "-"));
             std::fs::write(&file, octets).map_err(|error| format!("{file}: {error}"))?;
         }
+    }
+    Ok(())
+}
+
+fn write_books(folder: &str) -> Result<(), String> {
+    for (name, book) in bench::commands::books(&bench::commands::mixes(bench::SEED)) {
+        let file = format!("{folder}/{}", name.replace([' ', ','], "-"));
+        std::fs::write(&file, book).map_err(|error| format!("{file}: {error}"))?;
     }
     Ok(())
 }
