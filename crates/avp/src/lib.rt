@@ -1,13 +1,10 @@
 // An AVP of a walk: its name, its place, and refusals at it; and the blank AVP of an unused place.
 ghost use mathlib.Core.Path.{_≡_};
-ghost use mathlib.Core.Bool.{_&&_};
 ghost use Prim.Native.Nat.{_-_};
-ghost use lib.Dec.{eqb};
 ghost use Rattle.rules.specs.Verdict.{refused, verdictOf, Answers};
 ghost use Rattle.rules.specs.Avp.{named, placeOf};
 ghost use Rattle.rules.specs.RowChecks.{memberFault};
 ghost use Rattle.rules.specs.Search.{blank};
-ghost use Rattle.avp.specs.Names.{IsNameNumber};
 use rules::Avp;
 use rules::Outcome;
 use rules::Verdict;
@@ -36,21 +33,6 @@ pub fn is_named(a: Avp, vendor: u32, code: u32) -> bool
         return false;
     }
     a.code == code
-}
-
-// Vendor and code as one number.
-fn name_number(vendor: u32, code: u32) -> u64
-    ensures { λ r. ⌜ IsNameNumber vendor code r ⌝ }
-{
-    code as u64 * 4294967296 + vendor as u64
-}
-
-// Whether a vendor and a code are `other` and `another`. They are compared as one number each, since in a search one
-// test that seldom holds is faster than two of which one often does.
-pub fn is_same_name(vendor: u32, code: u32, other: u32, another: u32) -> bool
-    ensures { λ r. ⌜ r ≡ (eqb vendor other && eqb code another) ⌝ }
-{
-    name_number(vendor, code) == name_number(other, another)
 }
 
 // The place so many octets before another, 0 where there are not so many.

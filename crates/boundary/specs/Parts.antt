@@ -1,5 +1,5 @@
 -- What the boundary hands back for a record as numbers: the part of a slice that an AVP's data is, as start and length,
--- and the position that a search finds, as a number.
+-- and the answer of a search as numbers.
 use mathlib.Core.Path.{_≡_}
 use Prim.Native.Nat.{ℕ}
 use mathlib.Core.List.{List}
@@ -7,6 +7,7 @@ use lib.ListN.{length, take, drop, replicate}
 use Rattle.rules.specs.declared.Verdict.{Verdict}
 use Rattle.rules.specs.declared.Outcome.{Outcome}
 use Rattle.rules.specs.declared.Outcome.the-variants.{Refused}
+use Rattle.rules.specs.declared.Sought.{Sought}
 use Rattle.rules.specs.Command.{commandOutcome, commandVerdict}
 use Rattle.rules.specs.Record.{reading, dataStart, dataLength, dataAt, searchRecord}
 use Rattle.rules.specs.Search.{positionOf}
@@ -14,6 +15,7 @@ use Rattle.rules.specs.Draft.{draftOf}
 use Rattle.numbers.specs.Numbers.{numbersOf, recordNumbers, numberedRecord}
 use Rattle.numbers.specs.Draft.{numberedDraft}
 use Rattle.boundary.specs.declared.Part.{Part}
+use Rattle.boundary.specs.declared.SoughtNumbers.{SoughtNumbers}
 
 -- a part by its start and its length
 abbrev pub part : ℕ → ℕ → Part
@@ -33,9 +35,13 @@ pub record IsData (numbers : List ℕ) (i : ℕ) (s : List ℕ) (r : Part) : Typ
   pub is : r ≡ partAt numbers i (length s)
   pub octets : take (r .length) (drop (r .start) s) ≡ dataAt (numberedRecord numbers) i s
 
+-- the answer of a search as numbers
+abbrev pub soughtNumbers : Sought → SoughtNumbers
+soughtNumbers sought = record { position = positionOf (sought .found); number = sought .number }
+
 -- what `talazumir_search` gives
-unfoldable pub searchNumbers : List ℕ → ℕ → ℕ → ℕ
-searchNumbers numbers vendor code = positionOf (searchRecord (numberedRecord numbers) vendor code)
+unfoldable pub searchNumbers : List ℕ → ℕ → ℕ → ℕ → SoughtNumbers
+searchNumbers numbers vendor code ordinal = soughtNumbers (searchRecord (numberedRecord numbers) vendor code ordinal)
 
 -- what `talazumir_read` gives: the verdict, and the record as numbers, all 0 with a refusal. They stand for that
 -- record, and over any octets for its draft

@@ -2,12 +2,16 @@
 // writer, the canonical form, the seconds between two times, and commands from a link. include/talazumir.h says the
 // same in C's terms.
 ghost use mathlib.Core.Path.{_≡_};
+ghost use Prim.Native.Nat.{_≤_};
+ghost use Rattle.rules.specs.Walk.{mostAvps};
+ghost use Rattle.rules.specs.Search.{positionOf};
 ghost use Rattle.rules.specs.Times.{seconds};
 ghost use Rattle.reader.specs.Promise.{Judged};
 ghost use Rattle.numbers.specs.Draft.{numberedDraft};
 ghost use Rattle.writer.specs.Promise.{IsWritten};
 ghost use Rattle.canonical.specs.Promise.{IsCanonical};
 ghost use Rattle.boundary.specs.Parts.{IsRead, IsData, searchNumbers};
+use rules::Found;
 use rules::Outcome;
 use rules::Verdict;
 use rules::Written;
@@ -20,6 +24,13 @@ mod link;
 pub struct Part {
     pub start: usize,
     pub length: usize,
+}
+
+// The answer of a search: a position, 256 for none, and how many AVPs of that vendor and code there are.
+#[repr(C)]
+pub struct SoughtNumbers {
+    pub position: u32,
+    pub number: u32,
 }
 
 // The verdict of a command. The lent log is scratch memory for its walk: after a refusal what it holds is no record.
@@ -79,24 +90,34 @@ pub extern "C" fn talazumir_data(
     Part { start, length }
 }
 
-// The position of the first AVP at depth 1 with a vendor and code, 256 for none.
+// What a search finds as a number: 256 for none.
+fn position_of(found: Found) -> u32
+    requires { ⌜ positionOf found ≤ mostAvps ⌝ }
+    ensures { λ r. ⌜ r ≡ positionOf found ⌝ }
+{
+    let Found::At(position) = found else {
+        return limits::MOST_AVPS as u32;
+    };
+    position as u32
+}
+
+// The position of the AVP at depth 1 with a vendor and code that has as many of them before it as the ordinal says, 256
+// for none, and how many there are.
 #[no_mangle]
 pub extern "C" fn talazumir_search(
     numbers: &[u32; limits::RECORD_NUMBERS],
     vendor: u32,
     code: u32,
-) -> u32
-    ensures { λ r. ⌜ r ≡ searchNumbers (now (numbers .entry)) vendor code ⌝ }
+    ordinal: usize,
+) -> SoughtNumbers
+    ensures { λ r. ⌜ r ≡ searchNumbers (now (numbers .entry)) vendor code ordinal ⌝ }
 {
-    let used = numbers::used(numbers);
-    let mut i: usize = 0;
-    while i < used {
-        if lookup::matches(numbers::get(numbers, i), vendor, code) {
-            return i as u32;
-        }
-        i += 1;
+    let sought = lookup::search_numbers(numbers, vendor, code, ordinal);
+    let found = sought.found;
+    SoughtNumbers {
+        position: position_of(found),
+        number: sought.number as u32,
     }
-    limits::MOST_AVPS as u32
 }
 
 // Writes the draft that the numbers and the octets stand for; a flag that is neither 0 nor 1 is 7006.

@@ -53,6 +53,7 @@ fn records() {
     record::of_s();
     record::of_flags();
     record::of_count_300();
+    record::of_policies();
     record::of_refusal();
 }
 

@@ -55,15 +55,19 @@ fn data_line(record: Record, position: u16, command: [u8; 16400], length: usize)
     print::end_line();
 }
 
-fn search_line(record: Record, vendor: u32, code: u32) {
+// A vendor, a code and an ordinal; the position that the search finds, and how many there are.
+fn search_line(record: Record, vendor: u32, code: u32, ordinal: usize) {
     print::word(b"search");
     print::spaced(vendor);
     print::spaced(code);
-    let found = lookup::search(record, vendor, code);
+    print::position(ordinal);
+    let sought = lookup::search(record, vendor, code, ordinal);
+    let found = sought.found;
     match found {
         Found::At(position) => print::position(position),
         Found::Nothing => print::word(b" nothing"),
     }
+    print::position(sought.number);
     print::end_line();
 }
 
@@ -90,10 +94,10 @@ fn parts(record: Record, s: [u8; 16400]) {
 
 // 4203 is at position 7; there is no 4209; 266 stands at depth 2 only; 4203 is named with its vendor.
 fn searches(record: Record) {
-    search_line(record, 10415, 4203);
-    search_line(record, 10415, 4209);
-    search_line(record, 0, 266);
-    search_line(record, 0, 4203);
+    search_line(record, 10415, 4203, 0);
+    search_line(record, 10415, 4209, 0);
+    search_line(record, 0, 266, 0);
+    search_line(record, 0, 4203, 0);
 }
 
 pub(crate) fn of_s() {
@@ -130,8 +134,39 @@ pub(crate) fn of_count_300() {
     record.count = 300;
     data_line(record, 255, out, 160);
     data_line(record, 256, out, 160);
-    search_line(record, 10415, 4208);
-    search_line(record, 10415, 4209);
+    search_line(record, 10415, 4208, 0);
+    search_line(record, 10415, 4209, 0);
+    // Places that are all 0 stand at depth 0.
+    search_line(record, 0, 0, 0);
+}
+
+// 02 [9]: three policies, at positions 9, 15 and 21, each with a 4208 and a 4204, and a 4208 of the command's own list
+// at position 27.
+pub(crate) fn of_policies() {
+    let mut out = [0u8; 16400];
+    case::put_command(
+        &mut out,
+        Start::BegunAnswer,
+        b"M268=2001 VM4202:72 V2207:61 VM4207(VM4208=1 VM4204(VM4206=10 VM4205=11) M432=1) VM4207(VM4208=2 VM4204(VM4206=10 VM4205=11) M432=2) VM4207(VM4208=3 VM4204(VM4206=10 VM4205=11) M432=3) VM4208=4",
+    );
+    let reading = read(out, 400);
+    let verdict = reading.verdict;
+    print::verdict_line(b"policies", verdict);
+    let mut record = reading.record;
+    search_line(record, 10415, 4207, 0);
+    search_line(record, 10415, 4207, 1);
+    search_line(record, 10415, 4207, 2);
+    search_line(record, 10415, 4207, 3);
+    search_line(record, 10415, 4207, 18446744073709551615);
+    search_line(record, 10415, 4208, 0);
+    search_line(record, 10415, 4208, 1);
+    search_line(record, 10415, 4204, 0);
+    search_line(record, 0, 4207, 0);
+    // The second policy is the last AVP that is used; then it is the first that is not.
+    record.count = 16;
+    search_line(record, 10415, 4207, 1);
+    record.count = 15;
+    search_line(record, 10415, 4207, 1);
 }
 
 // 01, What comes back: every refusal carries the empty record. S is cut to 156 octets.

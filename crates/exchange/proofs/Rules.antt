@@ -1,8 +1,9 @@
 -- Laws of the exchange rules: each rule by what its searches found.
 use mathlib.Core.Path.{_≡_, refl, sym, ap, _∙_}
 use mathlib.Core.List.{List}
-use Prim.Native.Nat.{ℕ, _+_, _≤_, _<_}
-use lib.ListN.{drop}
+use Prim.Native.Nat.{ℕ, _≤_, _<_}
+use native.Mathlib.Omega.{arith}
+use borrow.Author.Tests.{lt-ltb, le-ltb}
 use Rattle.rules.specs.declared.Avp.{Avp}
 use Rattle.rules.specs.declared.Verdict.{Verdict}
 use Rattle.rules.specs.declared.Outcome.{Outcome}
@@ -12,7 +13,7 @@ use Rattle.rules.specs.declared.Found.the-variants.{At, Nothing}
 use Rattle.rules.specs.Octets.{numberAt}
 use Rattle.rules.specs.Verdict.{refused, orElse}
 use Rattle.rules.specs.RowChecks.{memberFault}
-use Rattle.rules.specs.Search.{avpIn, firstFrom}
+use Rattle.rules.specs.Search.{avpIn}
 use Rattle.rules.specs.Exchange.{present, require, direction, volume, totalAlone, firstRequest, byRequestType, requestOutcome}
 use Rattle.rules.specs.Exchange.{resultBy, resultOutcome, policiesOutcome, timesBy, windowBy, windowIn}
 use Rattle.rules.proofs.Outcomes.{or-pass, or-assoc}
@@ -88,25 +89,25 @@ module _ (find : ℕ → ℕ → Found) (xs : List Avp) (end : ℕ) where
   unfolding resultOutcome
   result-both i j e d = rw (e, d)
 
-  pub no-policy : find 10415 4207 ≡ Nothing → Pass ≡ policiesOutcome find xs end
+module _ (find : ℕ → ℕ → Found) (end number : ℕ) where
+  pub no-policy : number < 1 → Pass ≡ policiesOutcome find end number
   unfolding policiesOutcome
-  no-policy e = rw e
+  no-policy h = rw (lt-ltb number 1 h, lt-ltb number 2 (omega arith))
 
-  module _ (i : ℕ) (e : find 10415 4207 ≡ At i) where
+  module _ (some : 1 ≤ number) where
     pub policy-unreferenced : (o : Outcome) (v : Verdict) → o ≡ require find end 10415 4202 → o ≡ Refused v
-        → o ≡ policiesOutcome find xs end
+        → o ≡ policiesOutcome find end number
     unfolding policiesOutcome
-    policy-unreferenced o v d r = rw (e, sym d ∙ r) r
+    policy-unreferenced o v d r = rw (le-ltb number 1 some, sym d ∙ r) r
 
     module _ (d : require find end 10415 4202 ≡ Pass) where
-      pub one-policy : firstFrom (i + 1) 0 1 (drop (i + 1) xs) 10415 4207 ≡ Nothing → Pass ≡ policiesOutcome find xs end
+      pub one-policy : number < 2 → Pass ≡ policiesOutcome find end number
       unfolding policiesOutcome
-      one-policy f = rw (e, d, f)
+      one-policy h = rw (le-ltb number 1 some, d, lt-ltb number 2 h)
 
-      pub more-policies : (j : ℕ) → firstFrom (i + 1) 0 1 (drop (i + 1) xs) 10415 4207 ≡ At j
-          → require find end 10415 2207 ≡ policiesOutcome find xs end
+      pub more-policies : 2 ≤ number → require find end 10415 2207 ≡ policiesOutcome find end number
       unfolding policiesOutcome
-      more-policies j f = rw (e, d, f)
+      more-policies h = rw (le-ltb number 1 some, d, le-ltb number 2 h)
 
 -- ---- windows
 

@@ -6,7 +6,6 @@ ghost use Rattle.rules.specs.Exchange.{resultOutcome, policiesOutcome, policyIn
 ghost use Rattle.rules.specs.Walk.{mostAvps};
 ghost use Rattle.log.specs.Log.{avpsIn};
 ghost use Rattle.exchange.specs.Firsts.{findIn};
-use crate::search::next_own;
 use crate::search::require;
 use crate::search::search;
 use avp::member_fault;
@@ -17,7 +16,6 @@ use dictionary::kinds::RatingGroup;
 use dictionary::kinds::ReferenceId;
 use dictionary::kinds::ResultCode;
 use dictionary::kinds::TimeWindow;
-use dictionary::kinds::TransferPolicy;
 use rules::Found;
 use rules::Outcome;
 use rules::limits;
@@ -41,32 +39,25 @@ fn result_outcome(
     member_fault(5008, log::get(log, i))
 }
 
-// With any policy a Reference-Id, with two or more a PCRF-Address.
+// With any policy a Reference-Id, with two or more a PCRF-Address; `number` is how many there are.
 fn policies_outcome(
-    log: &[u32; limits::LOG_NUMBERS],
     firsts: &[u16; kinds::ENTRIES],
     count: usize,
     end: u32,
+    number: usize,
 ) -> Outcome
-    requires { ⌜ count ≤ mostAvps ⌝ }
-    ensures { λ r. ⌜ r ≡ policiesOutcome (findIn (now (firsts .entry)) count) (avpsIn (now (log .entry)) count) end ⌝ }
+    ensures { λ r. ⌜ r ≡ policiesOutcome (findIn (now (firsts .entry)) count) end number ⌝ }
 {
-    let Found::At(i) = search(firsts, count, TransferPolicy::ENTRY) else {
+    if number < 1 {
         return Outcome::Pass;
-    };
+    }
     let reference = require(firsts, count, end, ReferenceId::ENTRY);
     let Outcome::Pass = reference else {
         return reference;
     };
-    let Found::At(_) = next_own(
-        log,
-        i + 1,
-        count,
-        TransferPolicy::VENDOR,
-        TransferPolicy::CODE,
-    ) else {
+    if number < 2 {
         return Outcome::Pass;
-    };
+    }
     require(firsts, count, end, PcrfAddress::ENTRY)
 }
 
@@ -83,22 +74,23 @@ pub fn policy_in(firsts: &[u16; kinds::ENTRIES], count: usize, end: u32) -> Outc
     require(firsts, avps, end, RatingGroup::ENTRY)
 }
 
-// The rules of an answer; `policies` is what is said of each policy.
+// The rules of an answer; `number` is how many policies there are, `policies` what is said of each.
 pub(crate) fn answer_outcome(
     log: &[u32; limits::LOG_NUMBERS],
     firsts: &[u16; kinds::ENTRIES],
     count: usize,
     end: u32,
+    number: usize,
     policies: Outcome,
 ) -> Outcome
     requires { ⌜ count ≤ mostAvps ⌝ }
-    ensures { λ r. ⌜ r ≡ answerOutcome (findIn (now (firsts .entry)) count) (avpsIn (now (log .entry)) count) end policies ⌝ }
+    ensures { λ r. ⌜ r ≡ answerOutcome (findIn (now (firsts .entry)) count) (avpsIn (now (log .entry)) count) end number policies ⌝ }
 {
     let result = result_outcome(log, firsts, count, end);
     let Outcome::Pass = result else {
         return result;
     };
-    let asked = policies_outcome(log, firsts, count, end);
+    let asked = policies_outcome(firsts, count, end, number);
     let Outcome::Pass = asked else {
         return asked;
     };

@@ -16,7 +16,7 @@ mod request;
 mod search;
 pub mod window;
 
-// The rules of a request or of an answer; `policies` is what is said of each policy.
+// The rules of a request or of an answer; `number` is how many policies there are, `policies` what is said of each.
 fn by_command(
     request: bool,
     s: &[u8],
@@ -24,20 +24,21 @@ fn by_command(
     firsts: &[u16; kinds::ENTRIES],
     count: usize,
     end: u32,
+    number: usize,
     policies: Outcome,
 ) -> Outcome
     requires { ⌜ count ≤ mostAvps ⌝ }
-    ensures { λ r. ⌜ r ≡ byCommand (findIn (now (firsts .entry)) count) request (avpsIn (now (log .entry)) count) (now (s .entry)) end policies ⌝ }
+    ensures { λ r. ⌜ r ≡ byCommand (findIn (now (firsts .entry)) count) request (avpsIn (now (log .entry)) count) (now (s .entry)) end number policies ⌝ }
 {
     if request {
         return request::request_outcome(s, log, firsts, count, end);
     }
-    answer::answer_outcome(log, firsts, count, end, policies)
+    answer::answer_outcome(log, firsts, count, end, number, policies)
 }
 
 // What the exchange rules say of the command `s`, whose walk is in the log and whose own list ends at `end`, by the
-// first position of each entry in that list; `policies` and `windows` are what is said of each policy and of each
-// window.
+// first position of each entry in that list; `number` is how many policies there are, `policies` and `windows` what is
+// said of each policy and of each window.
 pub fn judge(
     request: bool,
     s: &[u8],
@@ -45,13 +46,14 @@ pub fn judge(
     firsts: &[u16; kinds::ENTRIES],
     count: usize,
     end: u32,
+    number: usize,
     policies: Outcome,
     windows: Outcome,
 ) -> Outcome
-    ensures { λ r. ⌜ Answers verdictOf (exchangeBy (findIn (now (firsts .entry)) (min count mostAvps)) request (avpsIn (now (log .entry)) count) (now (s .entry)) end policies windows) r ⌝ }
+    ensures { λ r. ⌜ Answers verdictOf (exchangeBy (findIn (now (firsts .entry)) (min count mostAvps)) request (avpsIn (now (log .entry)) count) (now (s .entry)) end number policies windows) r ⌝ }
 {
     let avps = log::used(count);
-    let outcome = by_command(request, s, log, firsts, avps, end, policies);
+    let outcome = by_command(request, s, log, firsts, avps, end, number, policies);
     let Outcome::Pass = outcome else {
         return outcome;
     };

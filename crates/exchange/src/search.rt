@@ -1,14 +1,12 @@
-// Searches: for the first AVP of a kind in a list, by the positions that the row checks kept; for a second one in the
-// command's own list, in a pass over the log; and what is read at a position that was found.
+// Searches for the first AVP of a kind in a list, by the positions that the row checks kept, and what is read at a
+// position that was found.
 ghost use mathlib.Core.Path.{_≡_};
-ghost use Prim.Native.Nat.{_≤_};
-ghost use lib.ListN.{drop, getD};
+ghost use lib.ListN.{getD};
 ghost use Rattle.rules.specs.Octets.{numberAt, IsNumber};
-ghost use Rattle.rules.specs.Search.{avpIn, firstFrom};
+ghost use Rattle.rules.specs.Search.{avpIn};
 ghost use Rattle.rules.specs.Exchange.{present as presentBy, require as requireIn};
 ghost use Rattle.rules.specs.Walk.{mostAvps};
-ghost use Rattle.log.specs.Log.{avpOf, avpsIn};
-ghost use Rattle.rules.specs.Search.{isAt};
+ghost use Rattle.log.specs.Log.{avpsIn};
 ghost use Rattle.rules.specs.Dictionary.{dictionary};
 ghost use Rattle.dictionary.specs.Entries.{vendorOf, codeOf};
 ghost use Rattle.exchange.specs.Positions.{Position, IsFoundAmong};
@@ -23,37 +21,6 @@ fn wide(x: u32) -> usize
     ensures { λ r. ⌜ IsNumber 4 x r ⌝ }
 {
     x as usize
-}
-
-// Whether the AVP at a position stands at a depth with a vendor and code.
-fn is_at(log: &[u32; limits::LOG_NUMBERS], i: usize, depth: usize, vendor: u32, code: u32) -> bool
-    ensures { λ r. ⌜ r ≡ isAt (avpOf (now (log .entry)) i) depth vendor code ⌝ }
-{
-    if log::is_named(log, i, vendor, code) {
-        return wide(log::depth_at(log, i)) == depth;
-    }
-    false
-}
-
-// The first AVP of the command's own list from a position on with a vendor and code.
-pub(crate) fn next_own(
-    log: &[u32; limits::LOG_NUMBERS],
-    from: usize,
-    count: usize,
-    vendor: u32,
-    code: u32,
-) -> Found
-    requires { ⌜ count ≤ mostAvps ⌝ }
-    ensures { λ r. ⌜ IsFoundAmong (firstFrom from 0 1 (drop from (avpsIn (now (log .entry)) count)) vendor code) count r ⌝ }
-{
-    let mut i = from;
-    while i < count {
-        if is_at(log, i, 1, vendor, code) {
-            return Found::At(i);
-        }
-        i += 1;
-    }
-    Found::Nothing
 }
 
 fn as_position(first: u16) -> usize

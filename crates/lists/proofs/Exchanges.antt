@@ -1,11 +1,12 @@
 -- The lists of a command by the log of its walk are judged as document 01 judges its AVPs: each name that the exchange
 -- rules ask for has an entry, and by the first positions of entries a list and each group are searched as 01 searches
 -- them.
-use mathlib.Core.Path.{_≡_, refl, ap, _∙_}
-use mathlib.Core.Bool.{Bool, true, false, cond, _&&_}
-use mathlib.Core.List.{List}
+use mathlib.Core.Path.{_≡_, refl, sym, ap, _∙_}
+use mathlib.Core.Bool.{Bool, true, false, cond, _&&_, and-comm}
+use mathlib.Core.List.{List, [], _∷_}
 use Prim.Native.Nat.{ℕ, _+_, _≤_, _<_}
 use native.Mathlib.Nat.{zero-add}
+use native.Mathlib.Omega.{arith}
 use borrow.Author.Tests.{eqb-true}
 use lib.Dec.{eqb, ltb→lt}
 use lib.ListN.{length, getD, drop}
@@ -20,20 +21,21 @@ use Rattle.rules.specs.Avp.{named, endOf}
 use Rattle.rules.specs.Walk.{mostAvps}
 use Rattle.rules.specs.Dictionary.{dictionary}
 use Rattle.rules.specs.RowChecks.{rowsOutcome}
-use Rattle.rules.specs.Search.{search, member}
+use Rattle.rules.specs.Search.{isAt, withPosition, positionsFrom, first, member, howMany}
 use Rattle.rules.specs.Exchange.{direction, volume, totalAlone, firstRequest, laterRequest, requestBy, requestOutcome}
-use Rattle.rules.specs.Exchange.{resultOutcome, policiesBy, policiesOutcome, answerOutcome, byCommand, exchangeBy}
-use Rattle.rules.specs.Exchange.{policyIn, policyAt, eachPolicy, windowIn, windowAt, eachWindow}
+use Rattle.rules.specs.Exchange.{resultOutcome, policiesOutcome, answerOutcome, byCommand, exchangeBy}
+use Rattle.rules.specs.Exchange.{policyIn, policyOutcome, policiesAt, eachPolicy, policyNumber, windowIn, windowAt, eachWindow}
 use Rattle.rules.specs.Exchange.{exchangeOutcome}
 use Rattle.rules.specs.Command.{commandGrammar}
+use Rattle.rules.proofs.Searches.{positions-next, positions-none, positions-number}
 use Rattle.dictionary.specs.Entries.{numberWhere, entryOf}
 use Rattle.log.specs.Log.{Logged}
 use Rattle.log.specs.Families.{loggedFrom, Forest, IsForest}
-use Rattle.log.proofs.Forests.{Stands, stands-at}
+use Rattle.log.proofs.Forests.{Holds, Stands, stands-at}
 use Rattle.exchange.specs.Firsts.{findIn}
 use Rattle.lists.specs.ByLog.{firstFault}
 use Rattle.lists.specs.Firsts.{noFirsts, firstsFrom}
-use Rattle.lists.specs.Exchanges.{firstsAt, hasEntry, policyLogged, windowLogged, listsBy}
+use Rattle.lists.specs.Exchanges.{firstsAt, hasEntry, isPolicy, policiesFrom, policyLogged, windowLogged, listsBy}
 use Rattle.lists.proofs.Finds.{IsKnown, known-only, first-among, find-same}
 use Rattle.lists.proofs.Walked.{FamilyAt, each-of, walked-rows}
 use Rattle.lists.proofs.Firsts.{first-positions, member-positions}
@@ -55,26 +57,20 @@ module _ (f g : ℕ → ℕ → Found) (same : (vendor code : ℕ) → IsKnown v
   request-by xs s end (At i) = rw (first-same xs end, later-same end)
   request-by xs s end Nothing = refl
 
-  policies-by : (xs : List Avp) (end : ℕ) (policy : Found) → policiesBy f xs end policy ≡ policiesBy g xs end policy
-  unfolding dictionary numberWhere
-  policies-by xs end (At i) = rw (same 10415 4202 tt, same 10415 2207 tt)
-  policies-by xs end Nothing = refl
-
   request-same : (xs : List Avp) (s : List ℕ) (end : ℕ) → requestOutcome f xs s end ≡ requestOutcome g xs s end
   unfolding dictionary numberWhere requestOutcome
   request-same xs s end =
       ap (requestBy f xs s end) (same 10415 4203 tt) ∙ request-by xs s end (g 10415 4203)
 
-  answer-same : (xs : List Avp) (end : ℕ) (policies : Outcome)
-      → answerOutcome f xs end policies ≡ answerOutcome g xs end policies
+  answer-same : (xs : List Avp) (end number : ℕ) (policies : Outcome)
+      → answerOutcome f xs end number policies ≡ answerOutcome g xs end number policies
   unfolding dictionary numberWhere answerOutcome resultOutcome policiesOutcome
-  answer-same xs end policies =
-      rw (same 0 268 tt, same 0 297 tt, same 10415 4207 tt, policies-by xs end (g 10415 4207))
+  answer-same xs end number policies = rw (same 0 268 tt, same 0 297 tt, same 10415 4202 tt, same 10415 2207 tt)
 
-  exchange-same : (request : Bool) (xs : List Avp) (s : List ℕ) (end : ℕ) (policies : Outcome)
-      → byCommand f request xs s end policies ≡ byCommand g request xs s end policies
-  exchange-same true xs s end policies = request-same xs s end
-  exchange-same false xs s end policies = answer-same xs end policies
+  exchange-same : (request : Bool) (xs : List Avp) (s : List ℕ) (end number : ℕ) (policies : Outcome)
+      → byCommand f request xs s end number policies ≡ byCommand g request xs s end number policies
+  exchange-same true xs s end number policies = request-same xs s end
+  exchange-same false xs s end number policies = answer-same xs end number policies
 
   policy-same : (end : ℕ) → policyIn f end ≡ policyIn g end
   unfolding dictionary numberWhere policyIn
@@ -83,6 +79,42 @@ module _ (f g : ℕ → ℕ → Found) (same : (vendor code : ℕ) → IsKnown v
   window-same : (xs : List Avp) (s : List ℕ) (end : ℕ) → windowIn f xs s end ≡ windowIn g xs s end
   unfolding dictionary numberWhere windowIn
   window-same xs s end = rw (same 10415 4206 tt, same 10415 4205 tt)
+
+-- ---- each policy, AVP by AVP
+
+-- what is said of the AVP a at position i: of a policy of the command's own list its outcome
+abbrev policyAt : List Avp → ℕ → Avp → Outcome
+policyAt ys i a = cond (isAt a 1 10415 4207) (policyOutcome ys i) Pass
+
+-- the policies from position i on
+abbrev policiesBehind : List Avp → ℕ → List Avp → Outcome
+policiesBehind ys i xs = policiesAt ys (positionsFrom i 0 1 xs 10415 4207)
+
+policies-end : (ys : List Avp) (i : ℕ) → policiesBehind ys i [] ≡ Pass
+unfolding policiesAt
+policies-end ys i = rw (positions-none i 0 1 10415 4207)
+
+policies-next : (ys : List Avp) (i : ℕ) (a : Avp) (xs : List Avp)
+    → policiesBehind ys i (a ∷ xs) ≡ orElse (policyAt ys i a) (policiesBehind ys (i + 1) xs)
+unfolding policiesAt
+policies-next ys i a xs =
+    rw (positions-next i 0 1 a xs 10415 4207 (omega arith))
+    (one (isAt a 1 10415 4207) (positionsFrom (i + 1) 0 1 xs 10415 4207))
+  where
+    one : (own : Bool) (is : List ℕ)
+        → policiesAt ys (withPosition own i is) ≡ orElse (cond own (policyOutcome ys i) Pass) (policiesAt ys is)
+    one true is = refl
+    one false is = refl
+
+-- ---- which AVPs of a log are policies
+
+-- an AVP that a log has is one exactly where 01 says so: its name and its depth are asked for in either order
+is-policy : (at : ℕ → Logged) (a : Avp) (i after : ℕ) → Holds (entryOf dictionary) at i a after
+    → isPolicy (at i) ≡ isAt a 1 10415 4207
+unfolding dictionary numberWhere
+is-policy at a i after h =
+    rw (h, known-only dictionary 10415 4207 (ltb→lt _ _ tt) (a .vendor) (a .code))
+    (and-comm (named a 10415 4207) (eqb (a .depth) 1))
 
 -- ---- the AVPs of a walk, which a log has
 
@@ -138,11 +170,20 @@ module _ (ys : List Avp) (few : length ys ≤ mostAvps) (at : ℕ → Logged) wh
 
   -- all of them
   module _ (forest : IsForest 1 ys) (stands : Stands (entryOf dictionary) at 0 ys) where
-    policies-of : firstFault (policyLogged at (length ys)) (length ys) 0 ≡ eachPolicy ys 0 ys
-    unfolding eachPolicy
+    policies-of : firstFault (policyLogged at (length ys)) (length ys) 0 ≡ eachPolicy ys
     policies-of =
-        each-of (entryOf dictionary) at ys (policyLogged at (length ys)) (λ i a xs. policyAt ys i a) (eachPolicy ys)
-        (λ i. refl) (λ i a xs. refl) policy-at forest stands
+        each-of (entryOf dictionary) at ys (policyLogged at (length ys)) (λ i a xs. policyAt ys i a) (policiesBehind ys)
+        (policies-end ys) (policies-next ys) policy-at forest stands
+
+    -- as many policies as the search tells
+    number-from : (xs : List Avp) (i : ℕ) → Stands (entryOf dictionary) at i xs
+        → policiesFrom at (length xs) i ≡ howMany 1 10415 4207 xs
+    unfolding policiesFrom howMany
+    number-from [] i s = refl
+    number-from (a ∷ xs) i s = rw (is-policy at a i _ (s .0), number-from xs (i + 1) (s .1))
+
+    number-of : policiesFrom at (length ys) 0 ≡ policyNumber ys
+    number-of = number-from ys 0 stands ∙ sym (positions-number ys 0 1 10415 4207)
 
     windows-of : (s : List ℕ) → firstFault (windowLogged at ys s (length ys)) (length ys) 0 ≡ eachWindow ys s 0 ys
     unfolding eachWindow
@@ -153,21 +194,22 @@ module _ (ys : List Avp) (few : length ys ≤ mostAvps) (at : ℕ → Logged) wh
 
     -- and so is the command's own list
     own-finds : (vendor code : ℕ) → IsKnown vendor code
-        → findIn (firstsFrom (length ys) at 0 (length ys) noFirsts) (length ys) vendor code ≡ search ys vendor code
+        → findIn (firstsFrom (length ys) at 0 (length ys) noFirsts) (length ys) vendor code ≡ first ys vendor code
     own-finds =
-        find-same 0 (length ys) few (search ys)
+        find-same 0 (length ys) few (first ys)
         (λ vendor code. rw (zero-add (length ys)) at (first-among vendor code ys 0 0 1)) _
         (λ vendor code k. first-positions at vendor code mostAvps k ys forest few stands)
 
     exchange-of : (request : Bool) (s : List ℕ) (end : ℕ)
         → exchangeBy (findIn (firstsFrom (length ys) at 0 (length ys) noFirsts) (length ys)) request ys s end
-        (firstFault (policyLogged at (length ys)) (length ys) 0) (firstFault (windowLogged at ys s (length ys)) (length ys) 0)
+        (policiesFrom at (length ys) 0) (firstFault (policyLogged at (length ys)) (length ys) 0)
+        (firstFault (windowLogged at ys s (length ys)) (length ys) 0)
         ≡ exchangeOutcome request ys s end
     unfolding exchangeBy
     exchange-of request s end =
-        rw (policies-of, windows-of s)
+        rw (number-of, policies-of, windows-of s)
         (ap (λ (o : Outcome). orElse o (eachWindow ys s 0 ys))
-        (exchange-same _ (search ys) own-finds request ys s end (eachPolicy ys 0 ys)))
+        (exchange-same _ (first ys) own-finds request ys s end (policyNumber ys) (eachPolicy ys)))
 
 -- the rows, then the exchange rules, by what a log has at each position; `other` is what stands where there is none
 pub walked-lists : (xs : List Avp) → IsForest 1 xs → length xs ≤ mostAvps → (at : ℕ → Logged) (other : Logged)

@@ -23,6 +23,7 @@ use Rattle.rules.specs.Dictionary.{Entry, dictionary, find, isKnown, membersOf}
 use Rattle.rules.specs.RowChecks.{admissionFrom, admission}
 use Rattle.rules.proofs.Names.{both-hold}
 use Rattle.rules.proofs.Tests.{and-true}
+use Rattle.rules.proofs.Searches.{first-none, first-next}
 use Rattle.dictionary.specs.Entries.{numberWhere, entryOf, saidAt, definitionAt}
 use Rattle.dictionary.proofs.Entries.{found-is}
 use Rattle.exchange.specs.Firsts.{foundBelow, findIn}
@@ -173,11 +174,11 @@ among-next i n false false Nothing later = tt
 
 pub first-among : (vendor code : ℕ) (xs : List Avp) (i floor depth : ℕ)
     → Among i (i + length xs) (firstFrom i floor depth xs vendor code)
-unfolding firstFrom
-first-among vendor code [] i floor depth = tt
+first-among vendor code [] i floor depth = rw (first-none i floor depth vendor code) tt
 first-among vendor code (a ∷ xs) i floor depth =
-    among-next i (length xs) (ltb (a .depth) floor) (isAt a depth vendor code) _
-    (first-among vendor code xs (i + 1) floor depth)
+    rw (first-next i floor depth a xs vendor code)
+    (among-next i (length xs) (ltb (a .depth) floor) (isAt a depth vendor code) _
+    (first-among vendor code xs (i + 1) floor depth))
 
 -- as a number: no position before i, and at most that for none
 abbrev Within : ℕ → Found → Type 0

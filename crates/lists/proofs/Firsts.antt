@@ -15,9 +15,9 @@ use Rattle.rules.specs.declared.Found.{Found}
 use Rattle.rules.specs.declared.Found.the-variants.{At, Nothing}
 use Rattle.rules.specs.Avp.{named}
 use Rattle.rules.specs.Walk.{mostAvps}
-use Rattle.rules.specs.Search.{isAt, firstFrom, search, member, positionOf}
+use Rattle.rules.specs.Search.{isAt, firstFrom, first, member, positionOf}
 use Rattle.rules.specs.Dictionary.{dictionary}
-use Rattle.rules.proofs.Searches.{first-above, first-later, first-none}
+use Rattle.rules.proofs.Searches.{first-above, first-later, first-none, first-next}
 use Rattle.dictionary.specs.Entries.{entryOf}
 use Rattle.log.specs.Log.{Logged}
 use Rattle.log.specs.Families.{Forest, none, family, flat, Placed, IsForest}
@@ -52,10 +52,10 @@ module _ (vendor code floor depth : ℕ) (deep : floor ≤ depth) where
       → firstFrom i floor depth (flat (family a members rest) ++ xs) vendor code
       ≡ cond (named a vendor code) (At i)
       (firstFrom (i + 1 + length (flat members)) floor depth (flat rest ++ xs) vendor code)
-  unfolding firstFrom
   first-family a members rest i xs p =
       let in-members = first-deeper members (depth + 1) (i + 1) (flat rest ++ xs) (omega arith) (p .1) in
       rw (
+        first-next i floor depth a ((flat members ++ flat rest) ++ xs) vendor code,
         le-ltb (a .depth) floor (omega (arith, p .0)),
         eq-eqb (a .depth) depth (p .0),
         append-assoc (flat members) (flat rest) xs,
@@ -155,7 +155,7 @@ module _ (at : ℕ → Logged) (vendor code other : ℕ) (known : entryOf dictio
 
   -- of the command's own list
   pub first-positions : (xs : List Avp) → IsForest 1 xs → length xs ≤ mostAvps → Stands (entryOf dictionary) at 0 xs
-      → getD (firstsFrom (length xs) at 0 (length xs) noFirsts) own other ≡ positionOf (search xs vendor code)
+      → getD (firstsFrom (length xs) at 0 (length xs) noFirsts) own other ≡ positionOf (first xs vendor code)
   first-positions xs f few s =
       let e : xs ≡ flat (f .forest) ++ [] = f .is ∙ sym (append-nil (flat (f .forest))) in
       let n : length xs ≡ length (flat (f .forest)) = ap (λ (ys : List Avp). length ys) (f .is) in

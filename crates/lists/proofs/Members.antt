@@ -5,7 +5,7 @@ use mathlib.Core.List.{List, [], _∷_}
 use mathlib.Core.Bool.{Bool, true, false, cond}
 use Prim.Native.Nat.{ℕ, zero, suc, _+_, _-_, _≤_, _<_}
 use native.Mathlib.Omega.{arith}
-use native.Mathlib.Nat.{sub-zero}
+use native.Mathlib.Nat.{add-zero, sub-zero}
 use borrow.Author.Tests.{lt-ltb, le-ltb, ltb-true, ne-eqb}
 use lib.Dec.{eqb, ltb}
 use Rattle.rules.specs.declared.Avp.{Avp}
@@ -21,6 +21,7 @@ use Rattle.rules.specs.Header.{vendor3GPP, isRequest}
 use Rattle.rules.specs.Rows.{admitsOthers}
 use Rattle.rules.specs.Dictionary.{dictionary, membersOf}
 use Rattle.rules.specs.RowChecks.{counted, byAdmission, missing}
+use Rattle.rules.specs.Search.{oneIf}
 use Rattle.rules.specs.Exchange.{exchangeBy}
 use Rattle.rules.specs.Command.{commandGrammar}
 use Rattle.rules.proofs.Outcomes.{refused-first, or-pass, or-assoc}
@@ -29,7 +30,7 @@ use Rattle.log.specs.Log.{Logged}
 use Rattle.exchange.specs.Firsts.{findIn}
 use Rattle.lists.specs.ByLog.{admissionAt, loggedMembers, membersBy, listBy, groupAt, firstFault, rowsBy}
 use Rattle.lists.specs.Firsts.{noFirsts, firstsFrom}
-use Rattle.lists.specs.Exchanges.{policyLogged, windowLogged, listsBy}
+use Rattle.lists.specs.Exchanges.{isPolicy, policiesFrom, policyLogged, windowLogged, listsBy}
 
 -- what is left of a list from position i on, with the counts so far
 abbrev pub leftBy : (ℕ → Logged) → ℕ → Grammar → ℕ → List ℕ → Bool → ℕ → Outcome
@@ -119,6 +120,40 @@ module _ (said : ℕ → Outcome) (count : ℕ) where
   pub reached-fault : (o : Outcome) {v : Verdict} (i : ℕ) → Reached o i → o ≡ Refused v → o ≡ firstFault said count 0
   reached-fault o i r e = sym (refused-first o _ e) ∙ r
 
+-- ---- the policies before `count`
+
+module _ (at : ℕ → Logged) (count : ℕ) where
+  -- as many as `number` are before position i
+  pub record Counted (number i : ℕ) : Type 0 where
+    pub left : number + policiesFrom at (count - i) i ≡ policiesFrom at count 0
+    pub few : number ≤ i
+
+  pub counted-none : Counted 0 0
+  counted-none = record { left = rw (sub-zero count) (omega arith); few = omega arith }
+
+  pub counted-next : (number i : ℕ) → Counted number i → i < count → Counted (number + oneIf (isPolicy (at i))) (i + 1)
+  unfolding policiesFrom
+  counted-next number i c h =
+      let n : count - i ≡ suc (count - (i + 1)) = omega arith in
+      let left = rw n at (c .left) in
+      let few = c .few in
+      record { left = omega arith; few = one-more (isPolicy (at i)) few }
+    where
+      one-more : (b : Bool) → number ≤ i → number + oneIf b ≤ i + 1
+      one-more true few = omega arith
+      one-more false few = omega arith
+
+  -- where there is none
+  pub counted-other : (number i : ℕ) → Counted number i → i < count → isPolicy (at i) ≡ false → Counted number (i + 1)
+  counted-other number i c h e = rw (e, add-zero number) at (counted-next number i c h)
+
+  pub counted-all : (number i : ℕ) → Counted number i → count ≤ i → number ≡ policiesFrom at count 0
+  unfolding policiesFrom
+  counted-all number i c h =
+      let n : count - i ≡ 0 = omega arith in
+      let left = rw n at (c .left) in
+      omega arith
+
 -- ---- AVPs that are no group
 
 module _ (at : ℕ → Logged) (count i : ℕ) (none : membersOf (definitionAt dictionary (at i .entry)) ≡ NoMembers) where
@@ -132,9 +167,13 @@ module _ (at : ℕ → Logged) (count i : ℕ) (none : membersOf (definitionAt d
   pub no-rows : Pass ≡ groupAt at count i
   no-rows = rw none
 
+  pub not-policy : isPolicy (at i) ≡ false
+  unfolding dictionary numberWhere definitionAt
+  not-policy = rw (no-entry (entryOf dictionary vendor3GPP 4207) TransferPolicy refl)
+
   pub no-policy : Pass ≡ policyLogged at count i
-  unfolding dictionary numberWhere definitionAt policyLogged
-  no-policy = rw (no-entry (entryOf dictionary vendor3GPP 4207) TransferPolicy refl)
+  unfolding policyLogged
+  no-policy = rw not-policy
 
   pub no-window : (xs : List Avp) (s : List ℕ) → Pass ≡ windowLogged at xs s count i
   unfolding dictionary numberWhere definitionAt windowLogged
@@ -155,7 +194,7 @@ module _ (at : ℕ → Logged) (xs : List Avp) (flags : ℕ) (s : List ℕ) (end
 
     pub rows-passed : groups ≡ Pass
         → exchangeBy (findIn (firstsFrom count at 0 count noFirsts) count) (isRequest flags) xs s end
-        (firstFault (policyLogged at count) count 0) (firstFault (windowLogged at xs s count) count 0)
+        (policiesFrom at count 0) (firstFault (policyLogged at count) count 0) (firstFault (windowLogged at xs s count) count 0)
         ≡ listsBy at xs flags s end count
     unfolding listsBy rowsBy
     rows-passed e = rw (sym is ∙ passed, sym all ∙ e)

@@ -2,7 +2,7 @@
 -- searched by their first positions. Of the log of a walk they say what document 01 says of its AVPs
 -- (proofs/Exchanges).
 use mathlib.Core.Path.{_≡_}
-use Prim.Native.Nat.{ℕ, _+_, _-_, min}
+use Prim.Native.Nat.{ℕ, zero, suc, _+_, _-_, min}
 use mathlib.Core.List.{List}
 use mathlib.Core.Bool.{Bool, cond, _&&_}
 use lib.Dec.{eqb}
@@ -15,6 +15,7 @@ use Rattle.rules.specs.Header.{vendor3GPP, isRequest}
 use Rattle.rules.specs.Avp.{endOf}
 use Rattle.rules.specs.Dictionary.{dictionary}
 use Rattle.rules.specs.Walk.{mostAvps}
+use Rattle.rules.specs.Search.{oneIf}
 use Rattle.rules.specs.Exchange.{policyIn, windowIn, exchangeBy}
 use Rattle.rules.specs.Command.{commandGrammar}
 use Rattle.dictionary.specs.Entries.{entryOf}
@@ -32,10 +33,18 @@ firstsAt at count i = firstsFrom (familyEnd at count i - (i + 1)) at (i + 1) (fa
 abbrev pub hasEntry : Logged → ℕ → ℕ → Bool
 hasEntry l vendor code = eqb (l .entry) (entryOf dictionary vendor code)
 
--- what is said of an AVP as a policy of the command's own list; `find` is the search of its members
+-- an AVP is a policy of the command's own list
+abbrev pub isPolicy : Logged → Bool
+isPolicy l = hasEntry l vendor3GPP 4207 && eqb (l .avp .depth) 1
+
+-- how many of the n AVPs from position i on are
+unfoldable pub policiesFrom : (ℕ → Logged) → ℕ → ℕ → ℕ
+policiesFrom at zero i = 0
+policiesFrom at (suc n) i = oneIf (isPolicy (at i)) + policiesFrom at n (i + 1)
+
+-- what is said of an AVP as such a policy; `find` is the search of its members
 abbrev pub asPolicy : (ℕ → ℕ → Found) → Logged → Outcome
-asPolicy find l =
-    cond (hasEntry l vendor3GPP 4207 && eqb (l .avp .depth) 1) (policyIn find (endOf (l .avp))) Pass
+asPolicy find l = cond (isPolicy l) (policyIn find (endOf (l .avp))) Pass
 
 -- and as a window
 abbrev pub asWindow : (ℕ → ℕ → Found) → List Avp → List ℕ → Logged → Outcome
@@ -48,9 +57,11 @@ policyLogged at count i = asPolicy (findIn (firstsAt at count i) count) (at i)
 unfoldable pub windowLogged : (ℕ → Logged) → List Avp → List ℕ → ℕ → ℕ → Outcome
 windowLogged at xs s count i = asWindow (findIn (firstsAt at count i) count) xs s (at i)
 
--- what judging the groups gives: the row checks, and where these pass, the first faults of policies and of windows
+-- what judging the groups gives: the row checks, and where these pass, the number of policies, and the first faults of
+-- policies and of windows
 pub record GroupsJudged (at : ℕ → Logged) (xs : List Avp) (s : List ℕ) (count : ℕ) (r : Groups) : Type 0 where
   pub rows : r .rows ≡ firstFault (groupAt at count) count 0
+  pub number : r .rows ≡ Pass → r .number ≡ policiesFrom at count 0
   pub policies : r .rows ≡ Pass → r .policies ≡ firstFault (policyLogged at count) count 0
   pub windows : r .rows ≡ Pass → r .windows ≡ firstFault (windowLogged at xs s count) count 0
 
@@ -59,7 +70,7 @@ unfoldable pub listsBy : (ℕ → Logged) → List Avp → ℕ → List ℕ → 
 listsBy at xs flags s end count =
     orElse (rowsBy at (commandGrammar flags) end count)
     (exchangeBy (findIn (firstsFrom count at 0 count noFirsts) count) (isRequest flags) xs s end
-    (firstFault (policyLogged at count) count 0) (firstFault (windowLogged at xs s count) count 0))
+    (policiesFrom at count 0) (firstFault (policyLogged at count) count 0) (firstFault (windowLogged at xs s count) count 0))
 
 -- by a log with so many AVPs, above 256 read as 256
 abbrev pub listsIn : ℕ → List ℕ → List ℕ → ℕ → ℕ → Outcome

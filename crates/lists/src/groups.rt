@@ -1,12 +1,13 @@
 // The groups of a command in walk order: the rows of each, and what the exchange rules say of it. Faults of the
 // exchange rules come after those of all rows, so the first of the policies and of the windows are kept.
 ghost use mathlib.Core.Path.{_≡_};
-ghost use Prim.Native.Nat.{_≤_, min};
+ghost use Prim.Native.Nat.{_+_, _≤_, _<_, min};
 ghost use Rattle.rules.specs.Verdict.{orElse};
 ghost use Rattle.rules.specs.Walk.{mostAvps};
+ghost use Rattle.rules.specs.Search.{oneIf};
 ghost use Rattle.log.specs.Log.{loggedOf, avpsIn};
 ghost use Rattle.exchange.specs.Firsts.{findIn};
-ghost use Rattle.lists.specs.Exchanges.{asPolicy, asWindow, GroupsJudged};
+ghost use Rattle.lists.specs.Exchanges.{isPolicy, asPolicy, asWindow, GroupsJudged};
 ghost use Rattle.lists.specs.Tables.{Lent};
 use crate::admission_table;
 use crate::list_outcome;
@@ -30,12 +31,34 @@ fn least(a: usize, b: usize) -> usize
     a
 }
 
-// What judging the groups gives: the row checks of them all, and where these pass, the first faults of the transfer
-// policies and of the time windows.
+// What judging the groups gives: the row checks of them all, and where these pass, the number of the transfer policies
+// of the command's own list, and the first faults of these policies and of the time windows.
 pub(crate) struct Groups {
     pub(crate) rows: Outcome,
+    pub(crate) number: usize,
     pub(crate) policies: Outcome,
     pub(crate) windows: Outcome,
+}
+
+// Whether the AVP at a position is a transfer policy of the command's own list.
+fn is_policy(log: &[u32; limits::LOG_NUMBERS], position: usize) -> bool
+    ensures { λ r. ⌜ r ≡ isPolicy (loggedOf (now (log .entry)) position) ⌝ }
+{
+    if log::entry_at(log, position) != TransferPolicy::ENTRY {
+        return false;
+    }
+    log::depth_at(log, position) == 1
+}
+
+// How many transfer policies there are, with the group at a position.
+fn with_number(before: usize, log: &[u32; limits::LOG_NUMBERS], position: usize) -> usize
+    requires { ⌜ before < mostAvps ⌝ }
+    ensures { λ r. ⌜ r ≡ before + oneIf (isPolicy (loggedOf (now (log .entry)) position)) ⌝ }
+{
+    if is_policy(log, position) {
+        return before + 1;
+    }
+    before
 }
 
 // The first fault of the transfer policies of the command's own list, with the group at a position.
@@ -52,13 +75,10 @@ fn with_policy(
     let Outcome::Pass = before else {
         return before;
     };
-    if log::entry_at(log, position) != TransferPolicy::ENTRY {
-        return Outcome::Pass;
+    if is_policy(log, position) {
+        return policy_in(firsts, count, log::data_end(log, position));
     }
-    if log::depth_at(log, position) != 1 {
-        return Outcome::Pass;
-    }
-    policy_in(firsts, count, log::data_end(log, position))
+    Outcome::Pass
 }
 
 // The first fault of the time windows, with the group at a position.
@@ -93,6 +113,7 @@ pub(crate) fn groups_outcome(
     requires { ⌜ Lent count (now admissions) (now rows) ⌝ }
     ensures { λ r. ⌜ GroupsJudged (loggedOf (now (log .entry))) (avpsIn (now (log .entry)) count) (now (s .entry)) count r ⌝ }
 {
+    let mut number: usize = 0;
     let mut policies = Outcome::Pass;
     let mut windows = Outcome::Pass;
     let mut i: usize = 0;
@@ -109,15 +130,18 @@ pub(crate) fn groups_outcome(
         if let Outcome::Refused(_) = outcome {
             return Groups {
                 rows: outcome,
+                number,
                 policies,
                 windows,
             };
         }
+        number = with_number(number, log, position);
         policies = with_policy(policies, log, position, &firsts, count);
         windows = with_window(windows, s, log, position, &firsts, count);
     }
     Groups {
         rows: Outcome::Pass,
+        number,
         policies,
         windows,
     }

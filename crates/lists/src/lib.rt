@@ -178,8 +178,19 @@ pub fn judge(
     if let Outcome::Refused(_) = in_groups {
         return in_groups;
     }
+    let number = groups.number;
     let policies = groups.policies;
     let windows = groups.windows;
     let request = has_flag(flags, flags::REQUEST);
-    exchange::judge(request, s, log, &firsts, used, end, policies, windows)
+    exchange::judge(
+        request,
+        s,
+        log,
+        &firsts,
+        used,
+        end,
+        number,
+        policies,
+        windows,
+    )
 }

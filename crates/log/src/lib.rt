@@ -3,7 +3,7 @@
 ghost use mathlib.Core.Path.{_≡_};
 ghost use Prim.Native.Nat.{_-_, min};
 ghost use lib.ListN.{length};
-ghost use Rattle.rules.specs.Avp.{endOf, named};
+ghost use Rattle.rules.specs.Avp.{endOf};
 ghost use Rattle.rules.specs.Walk.{mostAvps};
 ghost use Rattle.log.specs.Log.{logNumbers, bit, putAvp, putFamily, avpOf, entryAt, afterAt};
 use rules::Avp;
@@ -150,18 +150,6 @@ pub fn depth_at(log: &[u32; limits::LOG_NUMBERS], position: usize) -> u32
         return 0;
     }
     log[position * limits::LOGGED_NUMBERS]
-}
-
-// Whether the AVP at a position has a vendor and code. A search asks this first, and reads no more of an AVP of another
-// name.
-pub fn is_named(log: &[u32; limits::LOG_NUMBERS], position: usize, vendor: u32, code: u32) -> bool
-    ensures { λ r. ⌜ r ≡ named (avpOf (now (log .entry)) position) vendor code ⌝ }
-{
-    if limits::MOST_AVPS <= position {
-        return avp::is_named(avp::blank(), vendor, code);
-    }
-    let at = position * limits::LOGGED_NUMBERS;
-    avp::is_same_name(log[at + VENDOR], log[at + CODE], vendor, code)
 }
 
 // What stands for the number of an entry from position 256 on, and where it is no octet; no entry has it.

@@ -1,10 +1,10 @@
 -- Laws of a record as numbers: in room for 256 AVPs, all 0 for the empty record, and read back.
 use mathlib.Core.Path.{_≡_, refl, sym, ap, _∙_}
-use mathlib.Core.List.{List, [], _∷_, _++_}
+use mathlib.Core.List.{List, [], _∷_, _++_, map}
 use Prim.Native.Nat.{ℕ, zero, suc, _+_, _-_, _*_, _≤_, _<_}
 use native.Mathlib.Nat.{add-zero}
 use native.Mathlib.Omega.{arith}
-use lib.ListN.{length, getD, drop, replicate, length-append, length-replicate, List·getD-eq-default}
+use lib.ListN.{length, getD, drop, replicate, length-append, length-map, length-replicate, List·getD-eq-default}
 use lib.Seq.{drop-drop, getD-drop}
 use Rattle.rules.specs.declared.Avp.{Avp}
 use Rattle.rules.specs.declared.Record.{Record}
@@ -28,6 +28,10 @@ avp-out numbers i e h =
     rw (first, none 1, none 2, none 3, none 4, none 5, none 6)
 
 -- ---- in room for 256
+
+-- the length of a list, from that of its image: what owning an array tells is said of an image
+pub length-mapped : (X Y : Type 0) (f : X → Y) (l : List X) (n : ℕ) → length (map f l) ≡ n → length l ≡ n
+length-mapped X Y f l n h = sym (length-map l f) ∙ h
 
 pub room-full : (xs : List Avp) → length xs ≤ mostAvps → length (inRoom xs) ≡ mostAvps
 room-full xs few =

@@ -9,7 +9,7 @@ use borrow.Author.Tests.{lt-ltb}
 use lib.ListN.{length, getD, take, drop, drop-of-length-le}
 use lib.Seq.{drop-cons, getD-take, length-take-le}
 use Rattle.rules.specs.Walk.{mostAvps}
-use Rattle.rules.specs.Search.{blank}
+use Rattle.rules.specs.Search.{blank, avpIn}
 use Rattle.rules.specs.Draft.{nameFits, namesFit}
 use Rattle.numbers.specs.Numbers.{numberedPlace, numberedAvp, numberedAvps, numberedCount, numberedRecord, numberedUsed}
 use Rattle.numbers.proofs.Numbers.{avps-full, avp-in, count-in}
@@ -31,20 +31,23 @@ module _ (numbers : List ℕ) where
 
   -- ---- those in use
 
-  used-many : length (numberedUsed numbers) ≡ min (numberedCount numbers) mostAvps
+  pub used-many : length (numberedUsed numbers) ≡ min (numberedCount numbers) mostAvps
   used-many =
       let full = avps-full numbers in
       length-take-le (min (numberedRecord numbers .count) mostAvps) (numberedRecord numbers .avps) (omega arith)
       ∙ ap (λ (n : ℕ). min n mostAvps) (count-in numbers)
 
+  pub used-at : (i : ℕ) → i < min (numberedCount numbers) mostAvps → avpIn (numberedUsed numbers) i ≡ numberedAvp numbers i
+  used-at i h =
+      let in-use : i < min (numberedRecord numbers .count) mostAvps = rw (count-in numbers) h in
+      getD-take (min (numberedRecord numbers .count) mostAvps) (numberedRecord numbers .avps) i blank in-use
+      ∙ avp-in numbers i (omega arith)
+
   pub used-next : (i : ℕ) → i < min (numberedCount numbers) mostAvps
       → drop i (numberedUsed numbers) ≡ numberedAvp numbers i ∷ drop (i + 1) (numberedUsed numbers)
   used-next i h =
       let used : i < length (numberedUsed numbers) = rw used-many h in
-      let in-use : i < min (numberedRecord numbers .count) mostAvps = rw (count-in numbers) h in
-      drop-cons (numberedUsed numbers) i blank used
-      ∙ rw (getD-take (min (numberedRecord numbers .count) mostAvps) (numberedRecord numbers .avps) i blank in-use)
-      (rw (avp-in numbers i (omega arith), add-one i))
+      drop-cons (numberedUsed numbers) i blank used ∙ rw (used-at i h, add-one i)
 
   pub used-end : (i : ℕ) → min (numberedCount numbers) mostAvps ≤ i → drop i (numberedUsed numbers) ≡ []
   used-end i h =

@@ -22,7 +22,8 @@ pub mod Demands
 pub mod Order
 -- the name of a state: the canonical form of a command
 pub mod States
--- what a search finds
+-- what a search finds (request [9]), and the law on ordinals that carries it
+pub mod Nth
 pub mod Found
 -- request [2]: total volume beside a direction
 pub mod Volumes

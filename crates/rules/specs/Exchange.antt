@@ -1,11 +1,11 @@
 -- 01, Exchange rules (clause 4.4.1), over the AVPs of the walk: of a request, of an answer, and the windows. `find` is
--- the search of a list, where nothing else is said the command's own, and `end` the end of that list. The definitions
--- answer for every list of AVPs; where walk or rows have refused a command before, the comment says so.
+-- the search of a list for the first AVP of a name, where nothing else is said the command's own, and `end` the end of
+-- that list. The definitions answer for every list of AVPs; where walk or rows have refused a command before, the
+-- comment says so.
 use Prim.Native.Nat.{ℕ, _+_}
 use mathlib.Core.List.{List, [], _∷_}
 use mathlib.Core.Bool.{Bool, cond}
-use lib.ListN.{drop}
-use lib.Dec.{eqb}
+use lib.Dec.{ltb, eqb}
 use Rattle.rules.specs.declared.Avp.{Avp}
 use Rattle.rules.specs.declared.Outcome.{Outcome}
 use Rattle.rules.specs.declared.Outcome.the-variants.{Pass}
@@ -17,7 +17,7 @@ use Rattle.rules.specs.Header.{vendor3GPP}
 use Rattle.rules.specs.Avp.{named, endOf}
 use Rattle.rules.specs.RowChecks.{memberFault}
 use Rattle.rules.specs.Times.{isBefore}
-use Rattle.rules.specs.Search.{avpIn, isAt, firstFrom, search, member}
+use Rattle.rules.specs.Search.{avpIn, positions, search, first, member}
 
 -- a search that found nothing is 5005 at the end of the list that lacks the AVP
 abbrev pub present : ℕ → ℕ → ℕ → Found → Outcome
@@ -91,20 +91,11 @@ resultBy xs end Nothing Nothing = refused 5005 end 0 268
 unfoldable pub resultOutcome : (ℕ → ℕ → Found) → List Avp → ℕ → Outcome
 resultOutcome find xs end = resultBy xs end (find 0 268) (find 0 297)
 
--- a rule that holds only where a search found an AVP
-abbrev pub ifFound : Found → Outcome → Outcome
-ifFound (At i) o = o
-ifFound Nothing o = Pass
-
--- with any 4207, the first of which stands at position i: 4202. With two or more, where a second follows: 2207
-abbrev pub policiesBy : (ℕ → ℕ → Found) → List Avp → ℕ → Found → Outcome
-policiesBy find xs end (At i) =
-    orElse (require find end vendor3GPP 4202)
-    (ifFound (firstFrom (i + 1) 0 1 (drop (i + 1) xs) vendor3GPP 4207) (require find end vendor3GPP 2207))
-policiesBy find xs end Nothing = Pass
-
-unfoldable pub policiesOutcome : (ℕ → ℕ → Found) → List Avp → ℕ → Outcome
-policiesOutcome find xs end = policiesBy find xs end (find vendor3GPP 4207)
+-- with any 4207: 4202. With two or more: 2207. `number` is how many 4207 the list has
+unfoldable pub policiesOutcome : (ℕ → ℕ → Found) → ℕ → ℕ → Outcome
+policiesOutcome find end number =
+    orElse (cond (ltb number 1) Pass (require find end vendor3GPP 4202))
+    (cond (ltb number 2) Pass (require find end vendor3GPP 2207))
 
 -- a 4207 whose members `find` searches, and which ends at `end`, holds 4204, then 432
 unfoldable pub policyIn : (ℕ → ℕ → Found) → ℕ → Outcome
@@ -114,20 +105,22 @@ policyIn find end = orElse (require find end vendor3GPP 4204) (require find end 
 abbrev pub policyOutcome : List Avp → ℕ → Outcome
 policyOutcome xs i = policyIn (member xs i 2) (endOf (avpIn xs i))
 
--- what is said of the AVP a at position i: of a 4207 of the command's own list its outcome
-abbrev pub policyAt : List Avp → ℕ → Avp → Outcome
-policyAt xs i a = cond (isAt a 1 vendor3GPP 4207) (policyOutcome xs i) Pass
+-- the 4207 at these positions, in order
+unfoldable pub policiesAt : List Avp → List ℕ → Outcome
+policiesAt xs [] = Pass
+policiesAt xs (i ∷ is) = orElse (policyOutcome xs i) (policiesAt xs is)
 
--- each 4207 of the command's own list in order, from position i on
-unfoldable pub eachPolicy : List Avp → ℕ → List Avp → Outcome
-eachPolicy xs i [] = Pass
-eachPolicy xs i (a ∷ rest) =
-    orElse (policyAt xs i a) (eachPolicy xs (i + 1) rest)
+-- of the command's own list each 4207 in order, and how many the search tells
+abbrev pub eachPolicy : List Avp → Outcome
+eachPolicy xs = policiesAt xs (positions xs vendor3GPP 4207)
 
--- BTA: its result, what its policies ask of the command, then what is said of each policy
-unfoldable pub answerOutcome : (ℕ → ℕ → Found) → List Avp → ℕ → Outcome → Outcome
-answerOutcome find xs end policies =
-    orElse (resultOutcome find xs end) (orElse (policiesOutcome find xs end) policies)
+abbrev pub policyNumber : List Avp → ℕ
+policyNumber xs = search xs vendor3GPP 4207 0 .number
+
+-- BTA: its result, what its policies ask of the command by their number, then what is said of each policy
+unfoldable pub answerOutcome : (ℕ → ℕ → Found) → List Avp → ℕ → ℕ → Outcome → Outcome
+answerOutcome find xs end number policies =
+    orElse (resultOutcome find xs end) (orElse (policiesOutcome find end number) policies)
 
 -- a window whose 4206 and 4205 stand at positions i and j: the start is before the end, else 5004 at 4205
 abbrev pub timesBy : List Avp → List ℕ → ℕ → ℕ → Outcome
@@ -161,16 +154,17 @@ eachWindow xs s i [] = Pass
 eachWindow xs s i (a ∷ rest) =
     orElse (windowAt xs s i a) (eachWindow xs s (i + 1) rest)
 
--- the rules of a request or of an answer; `policies` is what is said of each policy
-abbrev pub byCommand : (ℕ → ℕ → Found) → Bool → List Avp → List ℕ → ℕ → Outcome → Outcome
-byCommand find request xs s end policies =
-    cond request (requestOutcome find xs s end) (answerOutcome find xs end policies)
+-- the rules of a request or of an answer; `number` is how many policies there are, `policies` what is said of each
+abbrev pub byCommand : (ℕ → ℕ → Found) → Bool → List Avp → List ℕ → ℕ → ℕ → Outcome → Outcome
+byCommand find request xs s end number policies =
+    cond request (requestOutcome find xs s end) (answerOutcome find xs end number policies)
 
 -- those rules, then what is said of the windows
-unfoldable pub exchangeBy : (ℕ → ℕ → Found) → Bool → List Avp → List ℕ → ℕ → Outcome → Outcome → Outcome
-exchangeBy find request xs s end policies windows = orElse (byCommand find request xs s end policies) windows
+unfoldable pub exchangeBy : (ℕ → ℕ → Found) → Bool → List Avp → List ℕ → ℕ → ℕ → Outcome → Outcome → Outcome
+exchangeBy find request xs s end number policies windows =
+    orElse (byCommand find request xs s end number policies) windows
 
--- by the search that 01 defines, the first AVP at depth 1 with a vendor and code, with each policy and each window
+-- by the search of the command's own list, with each policy and each window
 abbrev pub exchangeOutcome : Bool → List Avp → List ℕ → ℕ → Outcome
 exchangeOutcome request xs s end =
-    exchangeBy (search xs) request xs s end (eachPolicy xs 0 xs) (eachWindow xs s 0 xs)
+    exchangeBy (first xs) request xs s end (policyNumber xs) (eachPolicy xs) (eachWindow xs s 0 xs)

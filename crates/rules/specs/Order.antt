@@ -16,8 +16,8 @@ use Rattle.rules.specs.Header.{headerOutcome, commandFlags, isRequest, l
 use Rattle.rules.specs.Dictionary.{dictionary}
 use Rattle.rules.specs.Walk.{whole, stopped}
 use Rattle.rules.specs.RowChecks.{listOutcome, groupsOutcome}
-use Rattle.rules.specs.Search.{search}
-use Rattle.rules.specs.Exchange.{byCommand, eachPolicy, eachWindow}
+use Rattle.rules.specs.Search.{first}
+use Rattle.rules.specs.Exchange.{byCommand, policyNumber, eachPolicy, eachWindow}
 use Rattle.rules.specs.Command.{commandGrammar, walkOf, commandVerdict}
 use Rattle.rules.specs.Draft.{Draft, isWellFormed}
 use Rattle.rules.specs.Writer.{draftOctets, writing}
@@ -53,7 +53,8 @@ abbrev pub groupRows : List ℕ → List Avp → Outcome
 groupRows c xs = groupsOutcome dictionary xs
 
 abbrev pub exchange : List ℕ → List Avp → Outcome
-exchange c xs = byCommand (search xs) (isRequest (commandFlags c)) xs c (length c) (eachPolicy xs 0 xs)
+exchange c xs =
+    byCommand (first xs) (isRequest (commandFlags c)) xs c (length c) (policyNumber xs) (eachPolicy xs)
 
 abbrev pub windows : List ℕ → List Avp → Outcome
 windows c xs = eachWindow xs c 0 xs

@@ -9,7 +9,7 @@ use Rattle.rules.specs.declared.Record.{Record}
 use Rattle.rules.specs.declared.Reading.{Reading}
 use Rattle.rules.specs.declared.Outcome.{Outcome}
 use Rattle.rules.specs.declared.Outcome.the-variants.{Pass, Refused}
-use Rattle.rules.specs.declared.Found.{Found}
+use Rattle.rules.specs.declared.Sought.{Sought}
 use Rattle.rules.specs.Header.{commandFlags, hopByHop, endToEnd, isRequest, isProxiable, isError, isRetransmitted}
 use Rattle.rules.specs.Avp.{endOf}
 use Rattle.rules.specs.Walk.{mostAvps, avpsOf}
@@ -74,6 +74,6 @@ dataLength r i size = cond (liesIn r i size) (avpIn (r .avps) i .length) 0
 unfoldable pub dataAt : Record → ℕ → List ℕ → List ℕ
 dataAt r i s = take (dataLength r i (length s)) (drop (dataStart r i (length s)) s)
 
--- the first AVP at depth 1 with a vendor and code, among those of the record
-unfoldable pub searchRecord : Record → ℕ → ℕ → Found
-searchRecord r vendor code = search (recorded r) vendor code
+-- request [9]: the search among the AVPs of the record
+unfoldable pub searchRecord : Record → ℕ → ℕ → ℕ → Sought
+searchRecord r vendor code ordinal = search (recorded r) vendor code ordinal

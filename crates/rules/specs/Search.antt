@@ -1,13 +1,14 @@
--- 01, The record: positions among the AVPs of a walk, and the search. The exchange rules use it too.
+-- 01, The record, and request [9]: positions among the AVPs of a walk, and the search. The exchange rules use it too.
 use mathlib.Core.Path.{_≡_}
-use Prim.Native.Nat.{ℕ, _+_, _≤_, _<_}
+use Prim.Native.Nat.{ℕ, zero, suc, _+_, _≤_, _<_}
 use mathlib.Core.List.{List, [], _∷_}
 use mathlib.Core.Bool.{Bool, true, false, cond, _&&_}
-use lib.ListN.{length, getD, drop}
+use lib.ListN.{length, getD, take, drop}
 use lib.Dec.{ltb, eqb}
 use Rattle.rules.specs.declared.Avp.{Avp}
 use Rattle.rules.specs.declared.Found.{Found}
 use Rattle.rules.specs.declared.Found.the-variants.{At, Nothing}
+use Rattle.rules.specs.declared.Sought.{Sought}
 use Rattle.rules.specs.Avp.{named}
 use Rattle.rules.specs.Walk.{mostAvps}
 
@@ -23,23 +24,47 @@ avpIn xs i = getD xs i blank
 abbrev pub isAt : Avp → ℕ → ℕ → ℕ → Bool
 isAt a depth vendor code = eqb (a .depth) depth && named a vendor code
 
--- the position, counted from i, of the first AVP at a depth with a vendor and code, before any AVP above the depth
--- `floor`
-unfoldable pub firstFrom : ℕ → ℕ → ℕ → List Avp → ℕ → ℕ → Found
-firstFrom i floor depth [] vendor code = Nothing
-firstFrom i floor depth (a ∷ xs) vendor code =
-    cond (ltb (a .depth) floor) Nothing
-    (cond (isAt a depth vendor code) (At i) (firstFrom (i + 1) floor depth xs vendor code))
+-- some positions, with position i before them where it is one of theirs
+abbrev pub withPosition : Bool → ℕ → List ℕ → List ℕ
+withPosition true i is = i ∷ is
+withPosition false i is = is
 
--- a search gives the first AVP at depth 1 with a vendor and code
-abbrev pub search : List Avp → ℕ → ℕ → Found
-search xs vendor code = firstFrom 0 0 1 xs vendor code
+-- the positions, counted from i, of the AVPs at a depth with a vendor and code, in order, before any AVP above the depth
+-- `floor`
+unfoldable pub positionsFrom : ℕ → ℕ → ℕ → List Avp → ℕ → ℕ → List ℕ
+positionsFrom i floor depth [] vendor code = []
+positionsFrom i floor depth (a ∷ xs) vendor code =
+    cond (ltb (a .depth) floor) []
+    (withPosition (isAt a depth vendor code) i (positionsFrom (i + 1) floor depth xs vendor code))
+
+-- the one of some positions that an ordinal from 0 says; none where the ordinal is not below their number
+abbrev pub nth : List ℕ → ℕ → Found
+nth [] ordinal = Nothing
+nth (i ∷ is) zero = At i
+nth (i ∷ is) (suc ordinal) = nth is ordinal
+
+-- the first of them
+abbrev pub firstFrom : ℕ → ℕ → ℕ → List Avp → ℕ → ℕ → Found
+firstFrom i floor depth xs vendor code = nth (positionsFrom i floor depth xs vendor code) 0
+
+-- the AVPs at depth 1 with a vendor and code: those of the command's own list, by their positions
+abbrev pub positions : List Avp → ℕ → ℕ → List ℕ
+positions xs vendor code = positionsFrom 0 0 1 xs vendor code
+
+-- request [9]: a search takes an ordinal too, gives the one that the ordinal says, and tells how many there are
+abbrev pub search : List Avp → ℕ → ℕ → ℕ → Sought
+search xs vendor code ordinal =
+    record { found = nth (positions xs vendor code) ordinal; number = length (positions xs vendor code) }
+
+-- 01's search: the first AVP at depth 1 with a vendor and code
+abbrev pub first : List Avp → ℕ → ℕ → Found
+first xs vendor code = search xs vendor code 0 .found
 
 -- the first member of the group at position i, whose members stand at this depth
 abbrev pub member : List Avp → ℕ → ℕ → ℕ → ℕ → Found
 member xs i depth vendor code = firstFrom (i + 1) depth depth (drop (i + 1) xs) vendor code
 
--- the answer of a search as a number: the position, and the number of places for none
+-- what a search finds as a number: the position, and the number of places for none
 abbrev pub positionOf : Found → ℕ
 positionOf (At i) = i
 positionOf Nothing = mostAvps
@@ -50,23 +75,36 @@ positionOf Nothing = mostAvps
 abbrev pub Inside : ℕ → List Avp → ℕ → Type 0
 Inside floor xs k = (j : ℕ) → j ≤ k → floor ≤ avpIn xs j .depth
 
--- the AVP at a position is the first at a depth with a vendor and code, before any AVP above the depth `floor`
-pub record IsFirst (floor depth : ℕ) (xs : List Avp) (vendor code k : ℕ) : Type 0 where
+-- what a number gains where something is so
+abbrev pub oneIf : Bool → ℕ
+oneIf true = 1
+oneIf false = 0
+
+-- how many of some AVPs stand at a depth with a vendor and code
+unfoldable pub howMany : ℕ → ℕ → ℕ → List Avp → ℕ
+howMany depth vendor code [] = 0
+howMany depth vendor code (a ∷ xs) = oneIf (isAt a depth vendor code) + howMany depth vendor code xs
+
+-- the AVP at a position stands at a depth with a vendor and code, with as many such AVPs before it as the ordinal says,
+-- and before any AVP above the depth `floor`
+pub record IsNth (floor depth : ℕ) (xs : List Avp) (vendor code ordinal k : ℕ) : Type 0 where
   pub within : k < length xs
   pub here : isAt (avpIn xs k) depth vendor code ≡ true
-  pub before : (j : ℕ) → j < k → isAt (avpIn xs j) depth vendor code ≡ false
+  pub before : howMany depth vendor code (take k xs) ≡ ordinal
   pub inside : Inside floor xs k
-
--- there is none such
-abbrev pub IsNone : ℕ → ℕ → List Avp → ℕ → ℕ → Type 0
-IsNone floor depth xs vendor code =
-    (k : ℕ) → k < length xs → Inside floor xs k → isAt (avpIn xs k) depth vendor code ≡ false
 
 -- an AVP has this depth, vendor and code
 pub record Stands (a : Avp) (depth vendor code : ℕ) : Type 0 where
   pub depth-is : a .depth ≡ depth
   pub vendor-is : a .vendor ≡ vendor
   pub code-is : a .code ≡ code
+
+-- request [9]: the AVP at a position stands at depth 1 with a vendor and code, and has exactly as many of them before it
+-- at depth 1 as the ordinal says
+pub record NthAvp (xs : List Avp) (vendor code ordinal i : ℕ) : Type 0 where
+  pub within : i < length xs
+  pub here : Stands (avpIn xs i) 1 vendor code
+  pub before : howMany 1 vendor code (take i xs) ≡ ordinal
 
 -- 01: the first AVP at depth 1 with a vendor and code
 pub record FirstAvp (xs : List Avp) (vendor code i : ℕ) : Type 0 where

@@ -56,10 +56,17 @@ pub struct Written {
     pub length: u32,
 }
 
-// The answer of a search: a position of the record, or none.
+// What a search finds: a position of the record, or none.
 pub enum Found {
     At(usize),
     Nothing,
+}
+
+// The answer of a search for the nth AVP with a vendor and code (02, [9]): what it finds, and how many of them there
+// are, which is told with none too.
+pub struct Sought {
+    pub found: Found,
+    pub number: usize,
 }
 
 // The lists that have rows: the two commands, and each grouped AVP that is read.

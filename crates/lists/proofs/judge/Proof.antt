@@ -105,7 +105,7 @@ returns-3 c =
     let few : min (u .used .result) mostAvps ≡ u .used .result = omega (arith, u .used .ensures) in
     let kept = rw (y .no-firsts .ensures, sub-zero (u .used .result)) at (l .list-outcome .ensures .kept (p .enum-told2 .given .1)) in
     answers _ _ _
-    ((rw (few, kept, f .has-flag .ensures, groups .policies passed, groups .windows passed) at (c .judge .ensures .is))
+    ((rw (few, kept, f .has-flag .ensures, groups .number passed, groups .policies passed, groups .windows passed) at (c .judge .ensures .is))
     ∙ rows-passed _ _ _ _ _ _ _ (own l) (p .enum-told2 .given .1) _ (groups .rows) passed
     ∙ used u)
 

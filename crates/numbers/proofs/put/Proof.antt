@@ -6,8 +6,8 @@ use Prim.Native.Nat.{ℕ, _≤_, _-_}
 use native.Mathlib.Omega.{arith}
 use lib.ListN.{length, drop}
 use Rattle.rules.specs.Walk.{mostAvps}
-use Rattle.lookup.proofs.Positions.{length-mapped}
 use Rattle.numbers.specs.Numbers.{numbersOf, putAvps}
+use Rattle.numbers.proofs.Numbers.{length-mapped}
 use Rattle.numbers.proofs.Puts.{put-next, put-end, put-whole}
 use Rattle.numbers.proofs.put.Statement.{statement}
 use Rattle.numbers.proofs.put.Tie as tie

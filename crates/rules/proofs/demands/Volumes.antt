@@ -14,12 +14,12 @@ use Rattle.rules.specs.Header.{headerOutcome}
 use Rattle.rules.specs.Avp.{placeOf}
 use Rattle.rules.specs.Walk.{whole}
 use Rattle.rules.specs.RowChecks.{memberFault}
-use Rattle.rules.specs.Search.{avpIn, search as searched, FirstAvp, Stands}
+use Rattle.rules.specs.Search.{avpIn, first as searched, FirstAvp, Stands}
 use Rattle.rules.specs.Exchange.{require, firstFound, direction, volume, notBeside, totalAlone, firstRequest, laterRequest, byRequestType, requestOutcome}
 use Rattle.rules.specs.Command.{walkOf, commandVerdict}
 use Rattle.rules.specs.Order.{ownRows, groupRows, exchange}
 use Rattle.rules.specs.Volumes.{Has, HasDirection, StandsAlone, RequestOfType, TotalBeside, CompleteFirst, CompleteLater}
-use Rattle.rules.proofs.demands.Found.{search-first, search-none}
+use Rattle.rules.proofs.demands.Found.{search-first, search-absent}
 use Rattle.rules.proofs.demands.Order.{demand-2-first-fault}
 
 -- a refusal of an AVP that has this name
@@ -70,8 +70,8 @@ module _ (xs : List Avp) where
   unfolding totalAlone direction
   alone =
       ⊎-elim
-      (λ n. rw (search-none xs 0 421 .1 n))
-      (λ n. rw (search-none xs 0 412 .1 (n .0), search-none xs 0 414 .1 (n .1)) (none-beside (searched xs 0 421)))
+      (λ n. rw (search-absent xs 0 421 .1 n))
+      (λ n. rw (search-absent xs 0 412 .1 (n .0), search-absent xs 0 414 .1 (n .1)) (none-beside (searched xs 0 421)))
 
   -- ---- in its place
 
@@ -99,7 +99,7 @@ module _ (xs : List Avp) where
 
     -- 02 [2]: no other BTR with 4203 = 0 is refused for its volumes. One that has what the exchange rules ask for
     -- passes them, if its total stands alone.
-    -- Carried by search-first and search-none (Found).
+    -- Carried by search-first and search-absent (Found).
     -- Ruled out: a rule that refuses 412 beside 414; one that counts a total or a direction inside a group.
     pub request-2-first : CompleteFirst c xs → exchange c xs ≡ Pass
     unfolding firstRequest

@@ -6,9 +6,9 @@ use Prim.Native.Nat.{ℕ}
 use lib.ListN.{length}
 use Rattle.rules.specs.Walk.{mostAvps}
 use Rattle.rules.specs.Draft.{Draft}
-use Rattle.lookup.proofs.Positions.{length-mapped}
 use Rattle.numbers.specs.Numbers.{numbersOf}
 use Rattle.numbers.specs.Draft.{numberedDraft}
+use Rattle.numbers.proofs.Numbers.{length-mapped}
 use Rattle.numbers.proofs.Draft.{numbered-draft}
 use Rattle.writer.specs.Promise.{IsWritten}
 use Rattle.writer.proofs.write.Statement.{statement}

@@ -1,5 +1,5 @@
 -- `lists::groups::groups_outcome` meets its contract. The invariant says what is left: the groups from position `i` on,
--- with the first faults so far of policies and windows.
+-- with the number of policies and the first faults of policies and windows so far.
 use borrow.Author.Needs.{needs}
 use mathlib.Core.Path.{_≡_, refl, sym, ap, _∙_}
 use mathlib.Core.List.{List}
@@ -18,21 +18,22 @@ use Rattle.exchange.specs.Firsts.{findIn}
 use Rattle.lists.specs.ByLog.{familyEnd, groupAt}
 use Rattle.lists.specs.Firsts.{noFirsts, firstsFrom}
 use Rattle.lists.specs.Exchanges.{firstsAt, asPolicy, asWindow, policyLogged, windowLogged}
-use Rattle.lists.proofs.Members.{Reached, reached-none, reached-next, reached-pass, reached-all, reached-fault, no-rows, no-policy, no-window}
+use Rattle.lists.proofs.Members.{Counted, counted-none, counted-next, counted-other, counted-all, Reached, reached-none, reached-next, reached-pass, reached-all, reached-fault, no-rows, not-policy, no-policy, no-window}
 use Rattle.lists.proofs.groups.groups_outcome.Statement.{statement}
 use Rattle.lists.proofs.groups.groups_outcome.Tie as tie
 
 abbrev Inv-loop : tie.InvT-loop
-Inv-loop s log count admissions rows policies₀ windows₀ i₀ policies windows i =
-    Reached (groupAt (loggedOf log) count) count Pass i
+Inv-loop s log count admissions rows number₀ policies₀ windows₀ i₀ number policies windows i =
+    Counted (loggedOf log) count number i
+    × Reached (groupAt (loggedOf log) count) count Pass i
     × Reached (policyLogged (loggedOf log) count) count policies i
     × Reached (windowLogged (loggedOf log) (avpsIn log count) s count) count windows i
 
 abbrev μ-loop : tie.MeasureT-loop
-μ-loop s log count admissions rows policies₀ windows₀ i₀ policies windows i = count - i
+μ-loop s log count admissions rows number₀ policies₀ windows₀ i₀ number policies windows i = count - i
 
 loop-holds : tie.Need-loop-holds Inv-loop μ-loop
-loop-holds c = (reached-none _ _, reached-none _ _, reached-none _ _)
+loop-holds c = (counted-none _ _, reached-none _ _, reached-none _ _, reached-none _ _)
 
 add-i : tie.Need-add-i Inv-loop μ-loop
 add-i c = omega arith
@@ -68,9 +69,10 @@ loop-again c =
     let s = t .before .before .before .args in
     let at = loggedOf (s .log .now) in
     let none = sym (members m) ∙ c .enum-told .given .1 in (
-      reached-pass _ _ Pass _ (l .inv .0) (t .loop-test .taken) (no-rows at (s .count) (l .i) none),
-      reached-pass _ _ (l .policies) _ (l .inv .1) (t .loop-test .taken) (no-policy at (s .count) (l .i) none),
-      reached-pass _ _ (l .windows) _ (l .inv .2) (t .loop-test .taken) (no-window at (s .count) (l .i) none _ _),
+      counted-other _ _ _ _ (l .inv .0) (t .loop-test .taken) (not-policy at (s .count) (l .i) none),
+      reached-pass _ _ Pass _ (l .inv .1) (t .loop-test .taken) (no-rows at (s .count) (l .i) none),
+      reached-pass _ _ (l .policies) _ (l .inv .2) (t .loop-test .taken) (no-policy at (s .count) (l .i) none),
+      reached-pass _ _ (l .windows) _ (l .inv .3) (t .loop-test .taken) (no-window at (s .count) (l .i) none _ _),
     )
 
 after-at-requires : tie.Need-after-at-requires Inv-loop μ-loop
@@ -110,9 +112,10 @@ returns c =
     let o = c .before .before in
     let t = o .before .before .before .before .before .before .before .before .before .before .before in
     let refused = c .enum-told2 .given .1 in
-    let reached = reached-next _ _ Pass _ _ (t .before .loop .inv .0) (t .loop-test .taken) (rows o) in
+    let reached = reached-next _ _ Pass _ _ (t .before .loop .inv .1) (t .loop-test .taken) (rows o) in
     record {
       rows = reached-fault _ _ _ _ reached refused;
+      number = λ p. never (sym refused ∙ p);
       policies = λ p. never (sym refused ∙ p);
       windows = λ p. never (sym refused ∙ p);
     }
@@ -120,20 +123,35 @@ returns c =
 enum-told-3 : tie.Need-enum-told-3 Inv-loop μ-loop
 enum-told-3 c = search needs
 
+with-number-requires : tie.Need-with-number-requires Inv-loop μ-loop
+with-number-requires c κs =
+    let o = c .before .before in
+    let t = o .before .before .before .before .before .before .before .before .before .before .before in
+    let l = t .before .loop in
+    let st = t .before .before .before in
+    omega (arith, l .inv .0 .few, t .loop-test .taken, st .pre .few)
+
 with-policy-requires : tie.Need-with-policy-requires Inv-loop μ-loop
 with-policy-requires c κs = search needs
 
 with-window-requires : tie.Need-with-window-requires Inv-loop μ-loop
-with-window-requires c κs = search needs
+with-window-requires c κs =
+    let o = c .before .before .before .before .before .before in
+    let t = o .before .before .before .before .before .before .before .before .before .before .before in
+    omega (arith, t .before .before .before .pre .few)
 
 loop-less-2 : tie.Need-loop-less-2 Inv-loop μ-loop
-loop-less-2 c = omega arith
+loop-less-2 c =
+    let o = c .before .before .before .before .before .before .before in
+    let t = o .before .before .before .before .before .before .before .before .before .before .before in
+    omega (arith, t .loop-test .taken)
 
 loop-again-2 : tie.Need-loop-again-2 Inv-loop μ-loop
 unfolding policyLogged windowLogged
 loop-again-2 c =
     let w = c .before .before in
-    let e = w .before .before in
+    let n = w .before .before in
+    let e = n .before in
     let o = e .before .before in
     let t = o .before .before .before .before .before .before .before .before .before .before .before in
     let l = t .before .loop in
@@ -149,9 +167,10 @@ loop-again-2 c =
     let window : c .with-window .result ≡ orElse (l .windows) (windowLogged at (avpsIn (s .log .now) (s .count)) (s .s .now) (s .count) (l .i)) =
     c .with-window .ensures
     ∙ ap (λ (firsts : List ℕ). orElse (l .windows) (asWindow (findIn firsts (s .count)) (avpsIn (s .log .now) (s .count)) (s .s .now) (at (l .i)))) is in (
-      rw passed at (reached-next _ _ Pass _ (l .i) (l .inv .0) (t .loop-test .taken) (rows o)),
-      rw policy (reached-next _ _ (l .policies) _ (l .i) (l .inv .1) (t .loop-test .taken) refl),
-      rw window (reached-next _ _ (l .windows) _ (l .i) (l .inv .2) (t .loop-test .taken) refl),
+      rw (n .with-number .ensures) (counted-next _ _ (l .number) (l .i) (l .inv .0) (t .loop-test .taken)),
+      rw passed at (reached-next _ _ Pass _ (l .i) (l .inv .1) (t .loop-test .taken) (rows o)),
+      rw policy (reached-next _ _ (l .policies) _ (l .i) (l .inv .2) (t .loop-test .taken) refl),
+      rw window (reached-next _ _ (l .windows) _ (l .i) (l .inv .3) (t .loop-test .taken) refl),
     )
 
 returns-2 : tie.Need-returns-2 Inv-loop μ-loop
@@ -159,9 +178,10 @@ returns-2 c =
     let l = c .before .loop in
     let past = c .loop-test .left in
     record {
-      rows = reached-all _ _ Pass _ (l .inv .0) past;
-      policies = λ _. reached-all _ _ (l .policies) _ (l .inv .1) past;
-      windows = λ _. reached-all _ _ (l .windows) _ (l .inv .2) past;
+      rows = reached-all _ _ Pass _ (l .inv .1) past;
+      number = λ _. counted-all _ _ (l .number) _ (l .inv .0) past;
+      policies = λ _. reached-all _ _ (l .policies) _ (l .inv .2) past;
+      windows = λ _. reached-all _ _ (l .windows) _ (l .inv .3) past;
     }
 
 pub groups-outcome-spec : {M : Type 1} → statement M
@@ -186,6 +206,7 @@ groups-outcome-spec =
     enum-told-2
     returns
     enum-told-3
+    with-number-requires
     with-policy-requires
     with-window-requires
     loop-less-2

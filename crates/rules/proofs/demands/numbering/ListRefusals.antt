@@ -23,9 +23,9 @@ use Rattle.rules.specs.Avp.{endOf, named}
 use Rattle.rules.specs.Dictionary.{Entry, defined, membersOf}
 use Rattle.rules.specs.Rows.{Row, rowsOf, admitsOthers}
 use Rattle.rules.specs.RowChecks.{admission, noneMet, counted, byMark, byAdmission, memberOutcome, missingFrom, membersOutcome, membersAt, groupOutcome, groupsOutcome, listOutcome, rowsOutcome}
-use Rattle.rules.specs.Search.{avpIn, isAt, search as searched, member}
-use Rattle.rules.specs.Exchange.{present, volume, notBeside, totalAlone, firstRequest, laterRequest, requestBy, requestOutcome, resultBy, resultOutcome, ifFound, policiesBy, policiesOutcome, policyIn, policyOutcome, policyAt, eachPolicy, answerOutcome, windowBy, windowIn, windowOutcome, windowAt, eachWindow, byCommand, exchangeBy, exchangeOutcome}
-use Rattle.rules.proofs.demands.numbering.Refusals.{meets, AvpRefusals, pass-meets, either, both, in-turn}
+use Rattle.rules.specs.Search.{avpIn, positions, first, member}
+use Rattle.rules.specs.Exchange.{present, volume, notBeside, totalAlone, firstRequest, laterRequest, requestBy, requestOutcome, resultBy, resultOutcome, policiesOutcome, policyIn, policyOutcome, policiesAt, eachPolicy, policyNumber, answerOutcome, windowBy, windowIn, windowOutcome, windowAt, eachWindow, byCommand, exchangeBy, exchangeOutcome}
+use Rattle.rules.proofs.demands.numbering.Refusals.{meets, AvpRefusals, either, both, in-turn}
 
 -- the command's list, then each group
 rows-order : (dict : List Entry) (g : Grammar) (end : ℕ) (xs : List Avp)
@@ -141,40 +141,33 @@ module _ (t : Verdict → Bool) (r : AvpRefusals t) where
   unfolding resultOutcome
   result-meets find xs end = search result-by
 
-  found-meets : (f : Found) (o : Outcome) → meets t o ≡ true → meets t (ifFound f o) ≡ true
+  -- an outcome that some numbers, or some positions, have
+  where-meets : (b : Bool) (o : Outcome) → meets t o ≡ true → meets t (cond b o Pass) ≡ true
   unfolding meets
-  found-meets (At i) o h = h
-  found-meets Nothing o h = refl
+  where-meets b o h = simp (either t, both, h)
 
-  policies-by : (find : ℕ → ℕ → Found) (xs : List Avp) (end : ℕ) (f : Found) → meets t (policiesBy find xs end f) ≡ true
-  policies-by find xs end (At i) = search (in-turn, present-meets, found-meets)
-  policies-by find xs end Nothing = pass-meets t
+  unless-meets : (b : Bool) (o : Outcome) → meets t o ≡ true → meets t (cond b Pass o) ≡ true
+  unfolding meets
+  unless-meets b o h = simp (either t, both, h)
 
-  policies-meets : (find : ℕ → ℕ → Found) (xs : List Avp) (end : ℕ) → meets t (policiesOutcome find xs end) ≡ true
+  policies-meets : (find : ℕ → ℕ → Found) (end number : ℕ) → meets t (policiesOutcome find end number) ≡ true
   unfolding policiesOutcome
-  policies-meets find xs end = search policies-by
+  policies-meets find end number = search (in-turn, unless-meets, present-meets)
 
   policy-meets : (xs : List Avp) (i : ℕ) → meets t (policyOutcome xs i) ≡ true
   unfolding policyIn
   policy-meets xs i = search (in-turn, present-meets)
 
-  -- an outcome of some positions
-  where-meets : (b : Bool) (o : Outcome) → meets t o ≡ true → meets t (cond b o Pass) ≡ true
-  unfolding meets
-  where-meets b o h = simp (either t, both, h)
+  policies-at-meets : (xs : List Avp) (is : List ℕ) → meets t (policiesAt xs is) ≡ true
+  unfolding policiesAt meets
+  policies-at-meets xs [] = refl
+  policies-at-meets xs (i ∷ is) = in-turn t (policyOutcome xs i) _ (policy-meets xs i) (policies-at-meets xs is)
 
-  each-policy-meets : (xs : List Avp) (i : ℕ) (rest : List Avp) → meets t (eachPolicy xs i rest) ≡ true
-  unfolding eachPolicy meets
-  each-policy-meets xs i [] = refl
-  each-policy-meets xs i (a ∷ rest) =
-      in-turn t (policyAt xs i a) _ (where-meets (isAt a 1 10415 4207) (policyOutcome xs i) (policy-meets xs i))
-      (each-policy-meets xs (i + 1) rest)
-
-  answer-meets : (find : ℕ → ℕ → Found) (xs : List Avp) (end : ℕ) (policies : Outcome) → meets t policies ≡ true
-      → meets t (answerOutcome find xs end policies) ≡ true
+  answer-meets : (find : ℕ → ℕ → Found) (xs : List Avp) (end number : ℕ) (policies : Outcome) → meets t policies ≡ true
+      → meets t (answerOutcome find xs end number policies) ≡ true
   unfolding answerOutcome
-  answer-meets find xs end policies h =
-      in-turn t _ _ (result-meets find xs end) (in-turn t _ _ (policies-meets find xs end) h)
+  answer-meets find xs end number policies h =
+      in-turn t _ _ (result-meets find xs end) (in-turn t _ _ (policies-meets find end number) h)
 
   window-by : (xs : List Avp) (s : List ℕ) (end : ℕ) (f g : Found) → meets t (windowBy xs s end f g) ≡ true
   unfolding meets
@@ -197,14 +190,15 @@ module _ (t : Verdict → Bool) (r : AvpRefusals t) where
       in-turn t (windowAt xs s i a) _ (where-meets (named a 10415 4204) w (window-meets xs s i (a .depth + 1)))
       (each-window-meets xs s (i + 1) rest)
 
-  by-command : (find : ℕ → ℕ → Found) (request : Bool) (xs : List Avp) (s : List ℕ) (end : ℕ)
-      → meets t (byCommand find request xs s end (eachPolicy xs 0 xs)) ≡ true
-  by-command find true xs s end = request-meets find xs s end
-  by-command find false xs s end = answer-meets find xs end (eachPolicy xs 0 xs) (each-policy-meets xs 0 xs)
+  by-command : (find : ℕ → ℕ → Found) (request : Bool) (xs : List Avp) (s : List ℕ) (end number : ℕ)
+      → meets t (byCommand find request xs s end number (eachPolicy xs)) ≡ true
+  by-command find true xs s end number = request-meets find xs s end
+  by-command find false xs s end number =
+      answer-meets find xs end number (eachPolicy xs) (policies-at-meets xs (positions xs 10415 4207))
 
   pub exchange-meets : (request : Bool) (xs : List Avp) (s : List ℕ) (end : ℕ)
       → meets t (exchangeOutcome request xs s end) ≡ true
   unfolding exchangeBy
   exchange-meets request xs s end =
-      in-turn t (byCommand (searched xs) request xs s end (eachPolicy xs 0 xs)) _ (by-command (searched xs) request xs s end)
-      (each-window-meets xs s 0 xs)
+      in-turn t (byCommand (first xs) request xs s end (policyNumber xs) (eachPolicy xs)) _
+      (by-command (first xs) request xs s end (policyNumber xs)) (each-window-meets xs s 0 xs)

@@ -1,0 +1,2 @@
+-- What the searches promise.
+pub mod Promise
