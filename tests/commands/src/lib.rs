@@ -6,6 +6,9 @@ pub const S: [u8; 160] = octets(include_str!("../S.hex"));
 /// S with Route-Records up to the longest command: 250 AVPs, accepted.
 pub static L: [u8; 16_384] = octets(include_str!("../L.hex"));
 
+/// An accepted answer with three Transfer-Policies, at 132, 216 and 332: 29 AVPs.
+pub const THREE_POLICIES: [u8; 416] = octets(include_str!("../three-policies.hex"));
+
 /// Where the AVPs of S's own list start, and its end.
 const PLACES: [usize; 11] = [20, 32, 52, 64, 76, 88, 100, 116, 128, 144, 160];
 
@@ -64,5 +67,13 @@ mod tests {
         let mut expected = [S.to_vec(), record(60).repeat(238), record(32)].concat();
         expected[1..4].copy_from_slice(&[0, 0x40, 0]);
         assert_eq!(L[..], expected);
+    }
+
+    #[test]
+    fn the_three_policies_are_where_they_are_said_to_be() {
+        for (at, octet) in [(100, 0x6A), (132, 0x6F), (160, 0x6C), (216, 0x6F), (332, 0x6F)] {
+            assert_eq!(THREE_POLICIES[at..at + 5], [0, 0, 0x10, octet, 0xC0], "octet {at}");
+        }
+        assert_eq!(THREE_POLICIES[1..4], [0, 1, 0xA0]);
     }
 }
