@@ -18,7 +18,7 @@ extern "C" {
 /* Room for AVPs; a count above it is read as it. */
 #define TALAZUMIR_MOST_AVPS 256
 
-/* The answer of a search that finds nothing. */
+/* The position in the answer of a search that finds none. */
 #define TALAZUMIR_NONE 256
 
 /* The numbers of a log, the scratch memory of a verdict. */
@@ -114,6 +114,13 @@ struct TalazumirPart {
     size_t length;
 };
 
+/* What comes back for a search: the position of the AVP found, TALAZUMIR_NONE for none, and how many AVPs with the
+ * vendor and code there are at depth 1, found or not. */
+struct TalazumirSought {
+    uint32_t position;
+    uint32_t number;
+};
+
 /* What a caller keeps between calls for one link: how many octets of the next command the buffer holds, and whether the
  * run has stopped, 0 if not. */
 struct TalazumirLinkState {
@@ -145,9 +152,12 @@ struct TalazumirVerdict talazumir_read(const uint8_t *octets, size_t length, uin
 struct TalazumirPart talazumir_data(const uint32_t record[TALAZUMIR_RECORD_NUMBERS], size_t position,
                                     const uint8_t *octets, size_t length);
 
-/* The position of the first AVP at depth 1 with this vendor and code, TALAZUMIR_NONE exactly where there is none, for
- * whatever numbers the record holds. */
-uint32_t talazumir_search(const uint32_t record[TALAZUMIR_RECORD_NUMBERS], uint32_t vendor, uint32_t code);
+/* Of the AVPs at depth 1 with this vendor and code, the one that has exactly as many of them before it at depth 1 as
+ * the ordinal says: the first for 0, the second for 1. `number` is how many there are. The position is TALAZUMIR_NONE
+ * exactly where the ordinal is not below that number. Any ordinal has an answer, for whatever numbers the record holds;
+ * only used positions count, and each call looks at all of them. */
+struct TalazumirSought talazumir_search(const uint32_t record[TALAZUMIR_RECORD_NUMBERS], uint32_t vendor, uint32_t code,
+                                        size_t ordinal);
 
 /* Writes the draft, which is the record over the lent octets, as a command to the start of the output. Any numbers may
  * stand in the record; the first of these that applies is the answer:

@@ -35,8 +35,10 @@ static void print_data(size_t position, const uint8_t *octets, size_t length) {
     printf("\n");
 }
 
-static void print_search(uint32_t vendor, uint32_t code) {
-    printf("search of %" PRIu32 " %" PRIu32 ": %" PRIu32 "\n", vendor, code, talazumir_search(record, vendor, code));
+static void print_search(uint32_t vendor, uint32_t code, size_t ordinal) {
+    struct TalazumirSought sought = talazumir_search(record, vendor, code, ordinal);
+    printf("search of %" PRIu32 " %" PRIu32 ", ordinal %zu: position %" PRIu32 ", number %" PRIu32 "\n", vendor, code,
+           ordinal, sought.position, sought.number);
 }
 
 /* How many numbers are not 0. */
@@ -103,16 +105,29 @@ int main(void) {
     print_data(10, S, sizeof S - 1);
     print_data(11, S, sizeof S);
     print_data(SIZE_MAX, S, sizeof S);
-    print_search(10415, 4203);
-    print_search(0, 4203);
-    print_search(0, 266);
+    print_search(10415, 4203, 0);
+    print_search(10415, 4203, 1);
+    print_search(0, 4203, 0);
+    print_search(0, 266, 0);
 
     /* whatever numbers stand in a record: a count above 256 is read as 256, a part that leaves the slice is none */
     memset(record, 0xFF, sizeof record);
     print_data(255, S, sizeof S);
     print_data(256, S, sizeof S);
+    print_search(UINT32_MAX, UINT32_MAX, 0);
     record[TALAZUMIR_POSITION(255) + TALAZUMIR_AVP_DEPTH] = 1;
-    print_search(UINT32_MAX, UINT32_MAX);
+    print_search(UINT32_MAX, UINT32_MAX, 0);
+    print_search(UINT32_MAX, UINT32_MAX, SIZE_MAX);
+    for (size_t i = 0; i < TALAZUMIR_MOST_AVPS; i++) {
+        record[TALAZUMIR_POSITION(i) + TALAZUMIR_AVP_DEPTH] = 1;
+    }
+    print_search(UINT32_MAX, UINT32_MAX, 0);
+    print_search(UINT32_MAX, UINT32_MAX, 255);
+    print_search(UINT32_MAX, UINT32_MAX, 256);
+    record[TALAZUMIR_COUNT] = 255;
+    print_search(UINT32_MAX, UINT32_MAX, 255);
+    record[TALAZUMIR_COUNT] = 0;
+    print_search(UINT32_MAX, UINT32_MAX, 0);
 
     uint8_t shorter[144];
     memcpy(shorter, S, sizeof shorter);

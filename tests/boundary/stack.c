@@ -25,7 +25,7 @@ static uint32_t answer;
 static void verdict(void) { answer = talazumir_verdict(octets, length, log_numbers).number; }
 static void read_command(void) { answer = talazumir_read(octets, length, record).number; }
 static void data(void) { answer = talazumir_data(record, 10, octets, length).length; }
-static void search(void) { answer = talazumir_search(record, 10415, 4208); }
+static void search(void) { answer = talazumir_search(record, 10415, 4208, 0).position; }
 static void write_draft(void) { answer = talazumir_write(record, octets, length, out, sizeof out).verdict.number; }
 static void canonical(void) { answer = talazumir_canonical(octets, length, out, sizeof out).verdict.number; }
 static void seconds(void) { answer = (uint32_t)talazumir_seconds(4294967295, 0); }

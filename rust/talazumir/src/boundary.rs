@@ -10,11 +10,18 @@ pub(crate) struct Part {
     pub(crate) length: usize,
 }
 
+/// What comes back for a search, as it crosses the boundary: its position is 256 for none.
+#[repr(C)]
+pub(crate) struct Sought {
+    pub(crate) position: u32,
+    pub(crate) number: u32,
+}
+
 extern "C" {
     fn talazumir_verdict(octets: *const u8, length: usize, log: *mut u32) -> Verdict;
     fn talazumir_read(octets: *const u8, length: usize, record: *mut u32) -> Verdict;
     fn talazumir_data(record: *const u32, position: usize, octets: *const u8, length: usize) -> Part;
-    fn talazumir_search(record: *const u32, vendor: u32, code: u32) -> u32;
+    fn talazumir_search(record: *const u32, vendor: u32, code: u32, ordinal: usize) -> Sought;
     fn talazumir_write(record: *const u32, octets: *const u8, length: usize, out: *mut u8, room: usize) -> Written;
     fn talazumir_canonical(octets: *const u8, length: usize, out: *mut u8, room: usize) -> Written;
     fn talazumir_seconds(start: u32, end: u32) -> i64;
@@ -54,9 +61,9 @@ pub(crate) fn data(record: &[u32; RECORD_NUMBERS], position: usize, octets: &[u8
     unsafe { talazumir_data(record.as_ptr(), position, octets.as_ptr(), octets.len()) }
 }
 
-pub(crate) fn search(record: &[u32; RECORD_NUMBERS], vendor: u32, code: u32) -> u32 {
+pub(crate) fn search(record: &[u32; RECORD_NUMBERS], vendor: u32, code: u32, ordinal: usize) -> Sought {
     // SAFETY: the record of 1,799 numbers is only read; see above.
-    unsafe { talazumir_search(record.as_ptr(), vendor, code) }
+    unsafe { talazumir_search(record.as_ptr(), vendor, code, ordinal) }
 }
 
 pub(crate) fn write(record: &[u32; RECORD_NUMBERS], octets: &[u8], out: &mut [u8]) -> Written {

@@ -17,6 +17,9 @@
 //! commands of its meaning share; `examples/states.rs` keeps a set of states by it. [`Link`] puts commands together
 //! from the fragments of a capture, which end anywhere; `examples/link.rs` reads one from standard input. [`seconds`]
 //! gives the seconds of a time window, also across 2036.
+//!
+//! [`Record::search`] finds the nth AVP with a vendor and code in the command's own list, and says how many there are;
+//! [`Record::all`] goes through them. `examples/policies.rs` lists the Transfer-Policies of an answer so.
 
 #![deny(unsafe_code)]
 
@@ -106,6 +109,15 @@ pub struct Avp {
     pub length: u32,
 }
 
+/// What comes back for a search.
+#[derive(Clone, Copy, Debug, PartialEq, Eq, Hash)]
+pub struct Sought {
+    /// The position of the AVP found; none exactly where the ordinal is not below the number.
+    pub position: Option<usize>,
+    /// How many AVPs with the vendor and code there are at depth 1, found or not.
+    pub number: usize,
+}
+
 /// The record of a command, as the numbers that cross the boundary. Records are not compared: two commands of different
 /// meaning can have the same numbers, since the data octets are not among them. [`canonical`] names a state.
 #[derive(Clone, Debug)]
@@ -190,10 +202,42 @@ impl Record {
         &octets[part.start..part.start + part.length]
     }
 
-    /// The position of the first AVP at depth 1 with this vendor and code.
-    pub fn search(&self, vendor: u32, code: u32) -> Option<usize> {
-        let position = boundary::search(&self.numbers, vendor, code) as usize;
-        (position < MOST_AVPS).then_some(position)
+    /// Of the AVPs at depth 1 with this vendor and code, the one that has exactly as many of them before it at depth 1
+    /// as the ordinal says, the first for 0; and how many there are. Any ordinal has an answer, for whatever numbers
+    /// the record holds. Only used positions count, and each call looks at all of them.
+    ///
+    /// ```
+    /// // An answer with three Transfer-Policies (10415, 4207): the second, and a fourth.
+    /// let record = talazumir::read(&commands::THREE_POLICIES)?;
+    /// let second = record.search(10415, 4207, 1);
+    /// assert_eq!((second.position, second.number), (Some(15), 3));
+    /// let fourth = record.search(10415, 4207, 3);
+    /// assert_eq!((fourth.position, fourth.number), (None, 3));
+    /// # Ok::<(), talazumir::Verdict>(())
+    /// ```
+    pub fn search(&self, vendor: u32, code: u32, ordinal: usize) -> Sought {
+        let sought = boundary::search(&self.numbers, vendor, code, ordinal);
+        let position = sought.position as usize;
+        Sought { position: (position < MOST_AVPS).then_some(position), number: sought.number as usize }
+    }
+
+    /// The positions of all AVPs at depth 1 with this vendor and code, in order. This call is one
+    /// [`search`](Record::search), for their number, and each item is another; a search looks at all used positions, so
+    /// 256 AVPs with one name take 257 times 256 looks. An item that is skipped is searched for too: one call of
+    /// `search` finds the nth alone.
+    ///
+    /// ```
+    /// let record = talazumir::read(&commands::THREE_POLICIES)?;
+    /// let policies = record.all(10415, 4207);
+    /// assert_eq!(policies.len(), 3);
+    /// assert_eq!(policies.collect::<Vec<_>>(), [9, 15, 23]);
+    /// # Ok::<(), talazumir::Verdict>(())
+    /// ```
+    pub fn all(&self, vendor: u32, code: u32) -> impl DoubleEndedIterator<Item = usize> + ExactSizeIterator + '_ {
+        let number = self.search(vendor, code, 0).number;
+        (0..number).map(move |ordinal| {
+            self.search(vendor, code, ordinal).position.expect("a search below the number finds one")
+        })
     }
 }
 

@@ -1,7 +1,7 @@
 //! Document 01's commands at the edges through the safe functions: S, S without its last AVP, H and variants of H.
 
 use commands::S;
-use talazumir::{read, Avp, Reader, Record, Verdict, RECORD_NUMBERS};
+use talazumir::{read, Avp, Reader, Record, Sought, Verdict, RECORD_NUMBERS};
 
 const H: [u8; 20] = [1, 0, 0, 20, 0xC0, 0x80, 0, 0x73, 1, 0, 0, 0x84, 0, 0, 0, 1, 0, 0, 0, 2];
 
@@ -43,9 +43,10 @@ fn data_is_a_part_of_the_slice_or_empty() {
 #[test]
 fn search_looks_at_depth_1() {
     let record = read(&S).expect("S is accepted");
-    assert_eq!(record.search(10415, 4203), Some(7));
-    assert_eq!(record.search(0, 4203), None);
-    assert_eq!(record.search(0, 266), None);
+    assert_eq!(record.search(10415, 4203, 0), Sought { position: Some(7), number: 1 });
+    assert_eq!(record.search(10415, 4203, 1), Sought { position: None, number: 1 });
+    assert_eq!(record.search(0, 4203, 0), Sought { position: None, number: 0 });
+    assert_eq!(record.search(0, 266, 0), Sought { position: None, number: 0 });
 }
 
 #[test]
@@ -53,7 +54,7 @@ fn any_numbers_are_a_record() {
     let record = Record::from_numbers([u32::MAX; RECORD_NUMBERS]);
     assert_eq!(record.count(), 256);
     assert!(record.data(255, &H).is_empty());
-    assert_eq!(record.search(u32::MAX, u32::MAX), None);
+    assert_eq!(record.search(u32::MAX, u32::MAX, 0), Sought { position: None, number: 0 });
     assert!(!record.is_request());
 }
 
