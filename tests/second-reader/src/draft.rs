@@ -98,6 +98,20 @@ impl Draft {
         }
     }
 
+    /// The record that these numbers are: a flag is set where its number is 1, and a count above 256
+    /// is read as 256.
+    pub fn record(&self) -> Record {
+        Record {
+            r: self.r == 1,
+            p: self.p == 1,
+            e: self.e == 1,
+            t: self.t == 1,
+            hop_by_hop: self.hop_by_hop,
+            end_to_end: self.end_to_end,
+            avps: self.used().iter().map(Avp::from).collect(),
+        }
+    }
+
     /// The used places, of a count above 256 all.
     pub fn used(&self) -> &[Place] {
         &self.places[..self.count.min(MOST_AVPS as u32) as usize]
@@ -142,6 +156,21 @@ impl From<&Avp> for Place {
             p: avp.p.into(),
             start: avp.start,
             length: avp.length,
+        }
+    }
+}
+
+impl From<&Place> for Avp {
+    /// A depth above 255 becomes 255, so that it is never taken for 1.
+    fn from(place: &Place) -> Avp {
+        Avp {
+            depth: u8::try_from(place.depth).unwrap_or(u8::MAX),
+            vendor: place.vendor,
+            code: place.code,
+            m: place.m == 1,
+            p: place.p == 1,
+            start: place.start,
+            length: place.length,
         }
     }
 }

@@ -38,7 +38,7 @@ mod writer;
 pub use book::{listing, pieces, Piece, LONGEST_BOOK};
 pub use canonical::canonical;
 pub use draft::{Draft, Place};
-pub use record::{data, search, Avp, Record, MOST_AVPS};
+pub use record::{all, data, search, Avp, Record, Sought, MOST_AVPS};
 pub use verdict::{number, Verdict};
 pub use writer::{length, write, Written};
 

@@ -65,7 +65,32 @@ pub fn data<'a>(record: &Record, position: usize, octets: &'a [u8]) -> &'a [u8] 
     record.used().get(position).and_then(part).unwrap_or(&octets[..0])
 }
 
-/// The position of the first AVP at depth 1 with this vendor and code.
-pub fn search(record: &Record, vendor: u32, code: u32) -> Option<usize> {
-    record.used().iter().position(|avp| avp.depth == 1 && avp.vendor == vendor && avp.code == code)
+/// What a search gives.
+#[derive(Clone, Copy, Debug, PartialEq, Eq)]
+pub struct Sought {
+    /// The position of the one that was asked for, if there is one.
+    pub position: Option<usize>,
+    /// How many there are.
+    pub number: usize,
+}
+
+/// Of the AVPs at depth 1 with this vendor and code, the one with so many of them before it, and
+/// how many there are.
+pub fn search(record: &Record, vendor: u32, code: u32, ordinal: usize) -> Sought {
+    let mut sought = Sought { position: None, number: 0 };
+    for (position, avp) in record.used().iter().enumerate() {
+        if avp.depth == 1 && avp.vendor == vendor && avp.code == code {
+            if sought.number == ordinal {
+                sought.position = Some(position);
+            }
+            sought.number += 1;
+        }
+    }
+    sought
+}
+
+/// The positions of all AVPs at depth 1 with this vendor and code, in order.
+pub fn all(record: &Record, vendor: u32, code: u32) -> impl Iterator<Item = usize> + '_ {
+    let is_one = move |avp: &Avp| avp.depth == 1 && avp.vendor == vendor && avp.code == code;
+    record.used().iter().enumerate().filter(move |(_, avp)| is_one(avp)).map(|(position, _)| position)
 }

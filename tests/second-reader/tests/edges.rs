@@ -2,7 +2,7 @@
 
 use commands::{s_list, S};
 use second_reader::time::seconds;
-use second_reader::{data, listing, number, read, search, verdict, Avp, Record, Verdict};
+use second_reader::{all, data, listing, number, read, search, verdict, Avp, Draft, Record, Sought, Verdict};
 use std::slice::from_ref;
 
 const TGPP: u32 = 10_415;
@@ -560,17 +560,91 @@ fn record_parts() {
     assert_eq!(data(&record, 1, &S).len(), 12);
     assert_eq!(data(&record, 11, &S), b"");
     assert_eq!(data(&record, 10, &S[..159]), b"");
-    assert_eq!(search(&record, TGPP, 4208), Some(10));
-    assert_eq!(search(&record, 0, 266), None);
-    assert_eq!(search(&record, 0, 4208), None);
     record.avps[3].start = u32::MAX;
     record.avps[3].length = u32::MAX;
     assert_eq!(data(&record, 3, &S), b"");
     // A count above 256 is read as 256.
     record.avps.resize(256, Avp::default());
     record.avps.push(Avp { depth: 1, vendor: 0, code: 5, m: false, p: false, start: 0, length: 1 });
-    assert_eq!(search(&record, 0, 5), None);
+    assert_eq!(search(&record, 0, 5, 0), sought(None, 0));
     assert_eq!(data(&record, 256, &S), b"");
+}
+
+fn sought(position: impl Into<Option<usize>>, number: usize) -> Sought {
+    Sought { position: position.into(), number }
+}
+
+/// These positions are the list, and the answers for the ordinals below their number; for others there is none.
+fn finds(record: &Record, vendor: u32, code: u32, positions: &[usize]) {
+    let number = positions.len();
+    for (ordinal, &position) in positions.iter().enumerate() {
+        assert_eq!(search(record, vendor, code, ordinal), sought(position, number), "{vendor} {code} {ordinal}");
+    }
+    for ordinal in [number, number + 1, number + 2, usize::MAX] {
+        assert_eq!(search(record, vendor, code, ordinal), sought(None, number), "{vendor} {code} {ordinal}");
+    }
+    assert_eq!(all(record, vendor, code).collect::<Vec<_>>(), positions, "{vendor} {code}");
+}
+
+#[test]
+fn nth_of_a_kind() {
+    let record = read(&S).record;
+    finds(&record, 0, 263, &[0]);
+    finds(&record, TGPP, 4208, &[10]);
+    // In a group alone, of another vendor, and nowhere.
+    finds(&record, 0, 266, &[]);
+    finds(&record, 0, 4208, &[]);
+    finds(&record, 9, 9, &[]);
+    finds(&Record::default(), 0, 263, &[]);
+
+    // Seven AVPs, 4202 and 2207, then policies at 9, 20 and 30: a 284 with a fourth one stands between the first two,
+    // and the second one holds a fifth.
+    let offered = |more: &[Vec<u8>]| policy(&[vec![window(1, 2), plain(432, &four(1))], more.to_vec()].concat());
+    let mut list = answer_list();
+    list.extend([tgpp(4202, b"i"), avp(TGPP, 2207, 0, b"a"), offered(&[])]);
+    list.extend([proxy(&[policy(&[])]), offered(&[policy(&[])]), plain(282, b"r"), plain(282, b"q"), offered(&[])]);
+    let reading = read(&command(0x40, &list));
+    assert_eq!((reading.verdict, reading.record.avps.len()), (Verdict::ACCEPTED, 36));
+    let record = reading.record;
+    finds(&record, TGPP, 4207, &[9, 20, 30]);
+    finds(&record, 0, 282, &[28, 29]);
+    finds(&record, 0, 284, &[15]);
+    finds(&record, TGPP, 4204, &[]);
+    finds(&record, TGPP, 4208, &[]);
+    finds(&record, 0, 432, &[]);
+}
+
+#[test]
+fn nth_of_any_record() {
+    let places = |depths: &[u8]| depths.iter().map(|&depth| Avp { depth, code: 5, ..Avp::default() }).collect();
+    let mut record = Record { avps: places(&[0, 1, 2, 0, 1, 5, 255, 1]), ..Record::default() };
+    finds(&record, 0, 5, &[1, 4, 7]);
+    finds(&record, 5, 0, &[]);
+    record.avps[4].vendor = 1;
+    finds(&record, 0, 5, &[1, 7]);
+    finds(&record, 1, 5, &[4]);
+    // A count above 256 is read as 256.
+    for number in [255, 256, 257, 300] {
+        record.avps = places(&vec![1; number]);
+        finds(&record, 0, 5, &(0..number.min(256)).collect::<Vec<_>>());
+    }
+}
+
+#[test]
+fn nth_of_any_numbers() {
+    let mut draft = Draft::default();
+    for (place, depth) in draft.places.iter_mut().zip([1, 257, u32::MAX, 0, 1, 1 << 31 | 1, 1]) {
+        (place.depth, place.code) = (depth, 5);
+    }
+    for (count, positions) in [(0, &[][..]), (1, &[0]), (4, &[0]), (5, &[0, 4]), (6, &[0, 4]), (7, &[0, 4, 6])] {
+        draft.count = count;
+        finds(&draft.record(), 0, 5, positions);
+    }
+    for count in [255, 256, 257, u32::MAX] {
+        draft.count = count;
+        finds(&draft.record(), 0, 5, &[0, 4, 6]);
+        finds(&draft.record(), 0, 0, &[]);
+    }
 }
 
 #[test]
