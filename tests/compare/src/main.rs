@@ -1,20 +1,22 @@
 //! Compares the proved reader, over its boundary, with the second reader on a command for each name and on generated
-//! commands: the verdict, the whole record, the data of every position and the search; and the seconds between two
-//! generated times with each command.
+//! commands: the verdict, the whole record, the data of every position and the search; the seconds between two
+//! generated times with each command; and the search on made-up records.
 //!
 //! `compare SEED COMMANDS` ends with a table of what was reached. It exits 1 at the first difference, with the command
-//! in hexadecimal, or where a cell of the table is empty.
+//! in hexadecimal or the record made small, or where a cell of the table is empty.
 
 mod names;
+mod proved;
 
+use proved::Proved;
 use second_reader::coverage::Coverage;
-use second_reader::generate::{command, Prng};
+use second_reader::generate::{command, repeated, Prng};
+use second_reader::searches::{self, coverage::SearchCoverage};
 use std::fmt::{Debug, Display};
 use std::process::ExitCode;
 
-/// Names that are looked for in every command: of both commands' lists, of groups alone, and of no AVP.
-const NAMES: [(u32, u32); 8] =
-    [(0, 263), (0, 268), (0, 266), (0, 4203), (10415, 4203), (10415, 4205), (10415, 4207), (9, 9)];
+/// Made-up records.
+const RECORDS: u64 = 20_000;
 
 fn main() -> ExitCode {
     let arguments: Vec<String> = std::env::args().skip(1).collect();
@@ -26,22 +28,26 @@ fn main() -> ExitCode {
     };
     let mut prng = Prng::new(seed);
     let mut reader = talazumir::Reader::new();
-    let mut coverage = Coverage::default();
+    let (mut coverage, mut searched) = (Coverage::default(), SearchCoverage::default());
     for octets in names::commands() {
-        if let Err(difference) = compare(&octets, &mut reader) {
+        if let Err(difference) = compare(&octets, &mut reader, &mut searched) {
             return differs("a name", &difference, &octets);
         }
     }
     for ordinal in 1..=commands {
-        let octets = shortened(command(&mut prng), &mut prng);
-        let compared = compare(&octets, &mut reader).and_then(|()| compare_seconds(&mut prng));
+        let octets = any_command(&mut prng);
+        let compared = compare(&octets, &mut reader, &mut searched).and_then(|()| compare_seconds(&mut prng));
         if let Err(difference) = compared {
             return differs(format_args!("seed {seed}, command {ordinal}"), &difference, &octets);
         }
         coverage.note(&octets, &second_reader::verdict(&octets));
     }
-    print!("{coverage}");
-    let gaps = coverage.gaps();
+    if let Err(difference) = searches::made_up(seed, RECORDS, &mut searched, &mut proved::opened) {
+        println!("{difference}");
+        return ExitCode::FAILURE;
+    }
+    print!("{coverage}{searched}");
+    let gaps = [coverage.gaps(), searched.gaps()].concat();
     for gap in &gaps {
         println!("not reached: {gap}");
     }
@@ -63,8 +69,10 @@ fn differs(of: impl Display, difference: &str, octets: &[u8]) -> ExitCode {
     ExitCode::FAILURE
 }
 
-/// One command in fifty loses some octets at its end, so that its length field is not the slice's length.
-fn shortened(mut octets: Vec<u8>, prng: &mut Prng) -> Vec<u8> {
+/// A generated command. One in forty is sound and has several AVPs of a kind; one in fifty loses some octets at its
+/// end, so that its length field is not the slice's length.
+fn any_command(prng: &mut Prng) -> Vec<u8> {
+    let mut octets = if prng.one_in(40) { repeated(prng).encode() } else { command(prng) };
     if prng.one_in(50) {
         octets.truncate(prng.below(octets.len()));
     }
@@ -72,7 +80,7 @@ fn shortened(mut octets: Vec<u8>, prng: &mut Prng) -> Vec<u8> {
 }
 
 /// What differs, in words.
-fn compare(octets: &[u8], reader: &mut talazumir::Reader) -> Result<(), String> {
+fn compare(octets: &[u8], reader: &mut talazumir::Reader, searched: &mut SearchCoverage) -> Result<(), String> {
     let expected = second_reader::read(octets);
     let verdict = numbers(&expected.verdict);
     let ours = reader.verdict(octets);
@@ -80,7 +88,8 @@ fn compare(octets: &[u8], reader: &mut talazumir::Reader) -> Result<(), String> 
     match talazumir::read(octets) {
         Ok(record) => {
             same("number", 0, expected.verdict.number)?;
-            compare_records(&record, &expected.record, octets)
+            compare_records(&record, &expected.record, octets)?;
+            searches::compare(&expected.record, &Proved(record), searched)
         }
         Err(refusal) => same("refusal", (refusal.number, refusal.place, refusal.vendor, refusal.code), verdict),
     }
@@ -123,11 +132,6 @@ fn compare_records(ours: &talazumir::Record, expected: &second_reader::Record, o
             same(format_args!("data of position {position}"), a, b)?;
             same(format_args!("place of the data of position {position}"), a.as_ptr(), b.as_ptr())?;
         }
-    }
-    let there = expected.avps.iter().map(|avp| (avp.vendor, avp.code));
-    for (vendor, code) in there.chain(NAMES) {
-        let a = ours.search(vendor, code);
-        same(format_args!("search of {vendor} {code}"), a, second_reader::search(expected, vendor, code))?;
     }
     Ok(())
 }

@@ -22,6 +22,7 @@ pub mod meaning;
 pub mod properties;
 mod record;
 pub mod rows;
+pub mod searches;
 mod shrink;
 pub mod state_coverage;
 pub mod states;

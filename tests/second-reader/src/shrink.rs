@@ -131,12 +131,28 @@ fn set_length(case: &mut Case, at: usize, length: u32, settles: bool) {
     }
 }
 
-/// A case in a few lines: the command's numbers, the places that are not all 0, and the octets.
+/// A case in a few lines: the draft, and the octets.
 pub struct Shown<'a>(pub &'a Case);
 
 impl Display for Shown<'_> {
     fn fmt(&self, f: &mut Formatter<'_>) -> fmt::Result {
         let Case { draft, octets, output, .. } = self.0;
+        write!(f, "{}", ShownDraft(draft))?;
+        for (name, octets) in [("lent", octets), ("output", output)] {
+            write!(f, "{name}, {} octets: ", octets.len())?;
+            octets.iter().take(SHOWN).try_for_each(|octet| write!(f, "{octet:02x}"))?;
+            writeln!(f, "{}", if octets.len() > SHOWN { ".." } else { "" })?;
+        }
+        Ok(())
+    }
+}
+
+/// A draft in a few lines: the command's numbers, and the places that are not all 0.
+pub struct ShownDraft<'a>(pub &'a Draft);
+
+impl Display for ShownDraft<'_> {
+    fn fmt(&self, f: &mut Formatter<'_>) -> fmt::Result {
+        let draft = self.0;
         writeln!(
             f,
             "R {} P {} E {} T {} hop-by-hop {} end-to-end {} count {}",
@@ -156,11 +172,6 @@ impl Display for Shown<'_> {
                 writeln!(f)?;
             }
             first = last + 1;
-        }
-        for (name, octets) in [("lent", octets), ("output", output)] {
-            write!(f, "{name}, {} octets: ", octets.len())?;
-            octets.iter().take(SHOWN).try_for_each(|octet| write!(f, "{octet:02x}"))?;
-            writeln!(f, "{}", if octets.len() > SHOWN { ".." } else { "" })?;
         }
         Ok(())
     }

@@ -5,6 +5,7 @@ pub mod drafts;
 pub mod lists;
 mod mutate;
 mod prng;
+pub mod records;
 pub mod runs;
 mod sound;
 mod times;
@@ -17,6 +18,11 @@ pub use tree::{Body, Node, Tree};
 /// A sound command.
 pub fn sound(prng: &mut Prng) -> Tree {
     sound::command(prng)
+}
+
+/// A sound command with several AVPs of a kind in its own list.
+pub fn repeated(prng: &mut Prng) -> Tree {
+    sound::repeated(prng)
 }
 
 /// The octets of a command: sound, or made wrong in one or a few ways. The length field, where it

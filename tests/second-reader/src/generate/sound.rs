@@ -41,6 +41,24 @@ pub fn command(prng: &mut Prng) -> Tree {
     tree
 }
 
+/// A sound command with several AVPs of a kind that its own list admits in any number, at times with
+/// one more in a group; rarely one that a limit refuses.
+pub fn repeated(prng: &mut Prng) -> Tree {
+    let mut tree = command(prng);
+    let kind = prng.pick(&[RouteRecord, ProxyInfo, SupportedFeatures, RedirectHost, Load]);
+    for _ in 0..1 + prng.below(4) {
+        let node = known(kind, 1, prng);
+        tree.list.insert(1 + prng.below(tree.list.len()), node);
+    }
+    let groups = open_groups(&tree);
+    if !groups.is_empty() && prng.one_in(2) {
+        if let Body::Members(members) = &mut tree.list[prng.pick(&groups)].body {
+            members.push(known(kind, 2, prng));
+        }
+    }
+    tree
+}
+
 fn request(prng: &mut Prng) -> Vec<Node> {
     let kind = prng.below(2);
     let mut list = required(&rows::BTR, 1, prng);
@@ -280,17 +298,20 @@ pub fn fill(tree: &mut Tree, goal: usize, prng: &mut Prng) {
         if let Body::Data(data) = &mut node.body {
             data.truncate(6);
         }
-        let groups: Vec<usize> = (0..tree.list.len())
-            .filter(|&i| {
-                [ProxyInfo, SupportedFeatures, TimeWindow, TransferPolicy].iter().any(|&kind| tree.list[i].is(kind))
-            })
-            .collect();
+        let groups = open_groups(tree);
         if groups.is_empty() || !prng.one_in(4) {
             tree.list.insert(1 + prng.below(tree.list.len()), node);
         } else if let Body::Members(members) = &mut tree.list[prng.pick(&groups)].body {
             members.push(node);
         }
     }
+}
+
+/// Where the groups of the command's own list stand that admit any other AVP.
+fn open_groups(tree: &Tree) -> Vec<usize> {
+    let is_open =
+        |node: &Node| [ProxyInfo, SupportedFeatures, TimeWindow, TransferPolicy].into_iter().any(|kind| node.is(kind));
+    (0..tree.list.len()).filter(|&at| is_open(&tree.list[at])).collect()
 }
 
 /// Adds one long AVP that makes the command `goal` octets long, if there is room.

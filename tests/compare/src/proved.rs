@@ -1,0 +1,24 @@
+//! The proved search, as a trial of searches takes it.
+
+use second_reader::searches::Searched;
+use second_reader::{Draft, Sought};
+use talazumir::Record;
+
+/// A record that the proved search searches.
+pub struct Proved(pub Record);
+
+/// The record of these numbers.
+pub fn opened(draft: &Draft) -> Box<dyn Searched> {
+    Box::new(Proved(Record::from_numbers(draft.numbers())))
+}
+
+impl Searched for Proved {
+    fn search(&self, vendor: u32, code: u32, ordinal: usize) -> Sought {
+        let talazumir::Sought { position, number } = self.0.search(vendor, code, ordinal);
+        Sought { position, number }
+    }
+
+    fn all(&self, vendor: u32, code: u32) -> Vec<usize> {
+        self.0.all(vendor, code).collect()
+    }
+}
