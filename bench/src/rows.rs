@@ -58,7 +58,7 @@ pub struct Accepted<'a> {
     pub ours: talazumir::Record,
     pub theirs: second_reader::Record,
     pub draft: Draft,
-    /// The name that a search finds last.
+    /// The name whose first AVP at depth 1 stands last.
     pub last: (u32, u32),
 }
 
@@ -69,8 +69,9 @@ impl Accepted<'_> {
     pub fn of(octets: &[u8]) -> Accepted<'_> {
         let ours = talazumir::read(octets).expect("the proved reader accepts what the second one does");
         let theirs = second_reader::read(octets).record;
-        let is_first =
-            |&(i, avp): &(usize, &second_reader::Avp)| second_reader::search(&theirs, avp.vendor, avp.code) == Some(i);
+        let is_first = |&(i, avp): &(usize, &second_reader::Avp)| {
+            second_reader::search(&theirs, avp.vendor, avp.code, 0).position == Some(i)
+        };
         let last = theirs.avps.iter().enumerate().rfind(is_first).expect("there is a Session-Id");
         let last = (last.1.vendor, last.1.code);
         Accepted { octets, ours, draft: Draft::of(&theirs), theirs, last }
@@ -81,8 +82,8 @@ impl Accepted<'_> {
 fn records(mix: &Mix, effort: Effort) -> [Row; 4] {
     let commands: Vec<Accepted> = mix.commands.iter().map(|octets| Accepted::of(octets)).collect();
     let search = |name: fn(&Accepted) -> (u32, u32)| {
-        let ours = |command: &Accepted| command.ours.search(name(command).0, name(command).1);
-        let theirs = |command: &Accepted| second_reader::search(&command.theirs, name(command).0, name(command).1);
+        let ours = |command: &Accepted| command.ours.search(name(command).0, name(command).1, 0);
+        let theirs = |command: &Accepted| second_reader::search(&command.theirs, name(command).0, name(command).1, 0);
         each(effort, &commands, ours, theirs)
     };
     let canonical = {

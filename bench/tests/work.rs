@@ -65,12 +65,14 @@ fn both_do_the_same_with_a_record() {
     for octets in accepted.chain(grown) {
         let command = Accepted::of(&octets);
         let names: Vec<_> = command.theirs.avps.iter().map(|avp| (avp.vendor, avp.code)).chain([ABSENT]).collect();
+        let last = command.ours.search(command.last.0, command.last.1, 0).position;
         for &(vendor, code) in &names {
-            let position = command.ours.search(vendor, code);
-            assert_eq!(position, second_reader::search(&command.theirs, vendor, code));
-            assert!(position <= command.ours.search(command.last.0, command.last.1));
+            let talazumir::Sought { position, number } = command.ours.search(vendor, code, 0);
+            let theirs = second_reader::search(&command.theirs, vendor, code, 0);
+            assert_eq!((position, number), (theirs.position, theirs.number));
+            assert!(position <= last);
         }
-        assert_eq!(command.ours.search(ABSENT.0, ABSENT.1), None);
+        assert_eq!(command.ours.search(ABSENT.0, ABSENT.1, 0), talazumir::Sought { position: None, number: 0 });
         let [mut ours, mut theirs, mut our_form, mut their_form] = [[0xEE; 16_384]; 4];
         assert!(talazumir::write(&command.ours, &octets, &mut ours).is_accepted());
         assert_eq!(second_reader::write(&command.draft, &octets, &mut theirs).length, octets.len() as u32);
