@@ -191,6 +191,40 @@ windowed =
     5004 264 vendor3GPP 4205
     ∷ []
 
+-- an answer of this length with a result: these AVPs stand at 100
+unfoldable pub answerOf : ℕ → List ℕ → List ℕ
+answerOf length avps = answerHeader length ++ answerBegins ++ avp 268 0x40 12 (octets 4 2001) ++ avps
+
+-- its 4202 and its 2207; a policy, and one without 432
+unfoldable pub reference : List ℕ
+reference = avpOf3GPP 4202 0xC0 13 (letter 0x72)
+
+unfoldable pub address : List ℕ
+address = avpOf3GPP 2207 0x80 13 (letter 0x61)
+
+unfoldable pub policy : List ℕ
+policy =
+    avpOf3GPP 4207 0xC0 84
+    (avpOf3GPP 4208 0xC0 16 (octets 4 1) ++ windowOf 10 11 ++ avp 432 0x40 12 (octets 4 1))
+
+unfoldable pub unrated : List ℕ
+unrated = avpOf3GPP 4207 0xC0 72 (avpOf3GPP 4208 0xC0 16 (octets 4 2) ++ windowOf 10 11)
+
+-- the number of policies, as request [9] tells it, and each in order: one without 4202, and with it; two without 2207,
+-- and with it; three of which the second has no 432; two such, the first of which counts; one in a group, which neither
+-- counts nor is judged
+unfoldable pub policied : List Case
+policied =
+    case (answerOf 184 policy) 5005 184 vendor3GPP 4202
+    ∷ case (answerOf 200 (reference ++ policy)) 0 0 0 0
+    ∷ case (answerOf 284 (policy ++ reference ++ policy)) 5005 284 vendor3GPP 2207
+    ∷ case (answerOf 300 (policy ++ reference ++ policy ++ address)) 0 0 0 0
+    ∷ case (answerOf 372 (reference ++ address ++ policy ++ unrated ++ policy)) 5005 288 0 432
+    ∷ case (answerOf 360 (reference ++ address ++ policy ++ unrated ++ unrated)) 5005 288 0 432
+    ∷ case (answerOf 304 (reference ++ policy
+    ++ avp 284 0x40 104 (avp 280 0x40 9 (letter 0x68) ++ avp 33 0x40 9 (letter 0x73) ++ unrated))) 0 0 0 0
+    ∷ []
+
 -- and two Time values with the seconds from the first to the second
 pub record Span : Type 0 where
   pub start : ℕ
@@ -268,10 +302,10 @@ listings bs = map (λ b. listing (b .octets)) bs
 
 -- all of it, computed
 computed : (verdicts cases ≡ answers cases) × (verdicts further ≡ answers further) × (verdicts totals ≡ answers totals)
-    × (verdicts windowed ≡ answers windowed)
+    × (verdicts windowed ≡ answers windowed) × (verdicts policied ≡ answers policied)
     × (listing book ≡ bookListing) × (listings furtherBooks ≡ expected furtherBooks)
-unfolding headOfBook bookCase furtherBooks expected listings verdicts answers cases case header h avp avpOf3GPP sBegins vendorId sGoesOn sEnds sFront s further totals windowed windowOf provider numberOfUes volumeOf firstRequestOf answerBegins book bookListing octets numberAt padded lengthOutcome applicationOutcome flagsOutcome headerOutcome avpAt rowsOf admitsOthers dictionary find framing wrongFlags unsupported wrongWidth wrongValue tooDeep contents checked walkAvp walkList admissionFrom memberOutcome missingFrom membersOutcome membersAt groupsOutcome rowsOutcome positionsFrom direction volume totalAlone firstRequest laterRequest requestOutcome resultOutcome policiesOutcome policyIn policiesAt answerOutcome moment isBefore windowIn eachWindow exchangeBy walkOf listsOutcome commandOutcome commandVerdict digits isCut linesFrom isBook listing
-computed = (refl, refl, refl, refl, refl, refl)
+unfolding headOfBook bookCase furtherBooks expected listings verdicts answers cases case header h avp avpOf3GPP sBegins vendorId sGoesOn sEnds sFront s further totals windowed windowOf provider numberOfUes volumeOf firstRequestOf answerBegins answerOf reference address policy unrated policied book bookListing octets numberAt padded lengthOutcome applicationOutcome flagsOutcome headerOutcome avpAt rowsOf admitsOthers dictionary find framing wrongFlags unsupported wrongWidth wrongValue tooDeep contents checked walkAvp walkList admissionFrom memberOutcome missingFrom membersOutcome membersAt groupsOutcome rowsOutcome positionsFrom direction volume totalAlone firstRequest laterRequest requestOutcome resultOutcome policiesOutcome policyIn policiesAt answerOutcome moment isBefore windowIn eachWindow exchangeBy walkOf listsOutcome commandOutcome commandVerdict digits isCut linesFrom isBook listing
+computed = (refl, refl, refl, refl, refl, refl, refl)
 
 -- each marked case has its answer
 pub edges : verdicts cases ≡ answers cases
@@ -289,6 +323,10 @@ total-edges = computed .2
 pub window-edges : verdicts windowed ≡ answers windowed
 window-edges = computed .3
 
+-- and each case of the number of policies
+pub policy-edges : verdicts policied ≡ answers policied
+policy-edges = computed .4
+
 -- and each two Time values have their seconds
 pub span-edges : map (λ (x : Span). seconds (x .start) (x .end)) spans ≡ map (λ (x : Span). x .number) spans
 unfolding spans span seconds moment
@@ -302,8 +340,8 @@ right-spans = refl
 
 -- and the book its listing
 pub worked-book : listing book ≡ bookListing
-worked-book = computed .4
+worked-book = computed .5
 
 -- and each further book
 pub further-books : listings furtherBooks ≡ expected furtherBooks
-further-books = computed .5
+further-books = computed .6

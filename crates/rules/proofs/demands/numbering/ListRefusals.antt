@@ -161,7 +161,9 @@ module _ (t : Verdict → Bool) (r : AvpRefusals t) where
   policies-at-meets : (xs : List Avp) (is : List ℕ) → meets t (policiesAt xs is) ≡ true
   unfolding policiesAt meets
   policies-at-meets xs [] = refl
-  policies-at-meets xs (i ∷ is) = in-turn t (policyOutcome xs i) _ (policy-meets xs i) (policies-at-meets xs is)
+  policies-at-meets xs (i ∷ is) =
+      let later = policies-at-meets xs is in
+      search (in-turn, policy-meets, later)
 
   answer-meets : (find : ℕ → ℕ → Found) (xs : List Avp) (end number : ℕ) (policies : Outcome) → meets t policies ≡ true
       → meets t (answerOutcome find xs end number policies) ≡ true
