@@ -18,7 +18,8 @@ extern "C" {
 /* Room for AVPs; a count above it is read as it. */
 #define TALAZUMIR_MOST_AVPS 256
 
-/* The position in the answer of a search that finds none. */
+/* The position in the answer of a search that finds none. It is no position: TALAZUMIR_POSITION of it lies behind the
+ * record. */
 #define TALAZUMIR_NONE 256
 
 /* The numbers of a log, the scratch memory of a verdict. */

@@ -57,8 +57,11 @@ static void print_policy(size_t ordinal, size_t position) {
     print_member("rating group", position, 0, 432);
     print_member("downlink", position, VENDOR_3GPP, 515);
     print_member("uplink", position, VENDOR_3GPP, 516);
-    /* the exchange rules ask for a window in each policy of an answer */
     size_t window = member(position, VENDOR_3GPP, 4204);
+    if (window == TALAZUMIR_NONE) { /* not in an accepted answer */
+        printf("\n");
+        return;
+    }
     uint32_t start = number_at(member(window, VENDOR_3GPP, 4206)), end = number_at(member(window, VENDOR_3GPP, 4205));
     printf(", from %" PRIu32 " to %" PRIu32 ": %" PRId64 " seconds\n", start, end, talazumir_seconds(start, end));
 }
@@ -91,9 +94,10 @@ static void print_answer(const char *name) {
     print_nth("second", 1);
     print_nth("third", 2);
     print_nth("fourth", 3);
-    /* numbers that would be 0 or 1 if only their low octets counted */
+    /* 256, 4294967297 and 9223372036854775809 would be 0 and 1 if only their low octets or bits counted */
     print_nth("ordinal 256", 256);
     print_nth("ordinal 4294967297", 4294967297u);
+    print_nth("ordinal 9223372036854775809", 9223372036854775809u);
     print_nth("ordinal 18446744073709551615", SIZE_MAX);
 }
 

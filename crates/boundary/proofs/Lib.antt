@@ -2,4 +2,5 @@
 -- and of a link's answer as numbers.
 mod Readings
 mod Parts
+pub mod Searches
 mod Links

@@ -26,7 +26,7 @@ pub struct Part {
     pub length: usize,
 }
 
-// The answer of a search: a position, 256 for none, and how many AVPs of that vendor and code there are.
+// The answer of a search: a position, 256 for none, and how many AVPs with the vendor and code there are at depth 1.
 #[repr(C)]
 pub struct SoughtNumbers {
     pub position: u32,

@@ -1,4 +1,5 @@
-// 01, The record and the writer: the record of S, the data of its positions, and the search.
+// 01, The record and the writer: the record of S, the data of its positions, and the search, also for the nth AVP of a
+// name (02, [9]).
 ghost use Prim.Native.Nat.{_≤_};
 use crate::case;
 use crate::case::Start;

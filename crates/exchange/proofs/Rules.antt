@@ -3,7 +3,7 @@ use mathlib.Core.Path.{_≡_, refl, sym, ap, _∙_}
 use mathlib.Core.List.{List}
 use Prim.Native.Nat.{ℕ, _≤_, _<_}
 use native.Mathlib.Omega.{arith}
-use borrow.Author.Tests.{lt-ltb, le-ltb}
+use borrow.Author.Tests.{lt-leb, le-leb}
 use Rattle.rules.specs.declared.Avp.{Avp}
 use Rattle.rules.specs.declared.Verdict.{Verdict}
 use Rattle.rules.specs.declared.Outcome.{Outcome}
@@ -92,22 +92,22 @@ module _ (find : ℕ → ℕ → Found) (xs : List Avp) (end : ℕ) where
 module _ (find : ℕ → ℕ → Found) (end number : ℕ) where
   pub no-policy : number < 1 → Pass ≡ policiesOutcome find end number
   unfolding policiesOutcome
-  no-policy h = rw (lt-ltb number 1 h, lt-ltb number 2 (omega arith))
+  no-policy h = rw (lt-leb 1 number h, lt-leb 2 number (omega arith))
 
   module _ (some : 1 ≤ number) where
     pub policy-unreferenced : (o : Outcome) (v : Verdict) → o ≡ require find end 10415 4202 → o ≡ Refused v
         → o ≡ policiesOutcome find end number
     unfolding policiesOutcome
-    policy-unreferenced o v d r = rw (le-ltb number 1 some, sym d ∙ r) r
+    policy-unreferenced o v d r = rw (le-leb 1 number some, sym d ∙ r) r
 
     module _ (d : require find end 10415 4202 ≡ Pass) where
       pub one-policy : number < 2 → Pass ≡ policiesOutcome find end number
       unfolding policiesOutcome
-      one-policy h = rw (le-ltb number 1 some, d, lt-ltb number 2 h)
+      one-policy h = rw (le-leb 1 number some, d, lt-leb 2 number h)
 
       pub more-policies : 2 ≤ number → require find end 10415 2207 ≡ policiesOutcome find end number
       unfolding policiesOutcome
-      more-policies h = rw (le-ltb number 1 some, d, le-ltb number 2 h)
+      more-policies h = rw (le-leb 1 number some, d, le-leb 2 number h)
 
 -- ---- windows
 

@@ -1,5 +1,6 @@
 // 01, Exchange rules: those of a request, of an answer, of a transfer policy and of a time window, by the first
-// position of each entry in a list. A search for an AVP is in `search`, the rules in the modules of their names.
+// position of each entry in a list, and by the number of policies. A search for an AVP is in `search`, the rules in the
+// modules of their names.
 ghost use mathlib.Core.Path.{_≡_};
 ghost use Prim.Native.Nat.{_≤_, min};
 ghost use Rattle.rules.specs.Verdict.{verdictOf, Answers};

@@ -1,6 +1,6 @@
 -- The lists of a command by the log of its walk are judged as document 01 judges its AVPs: each name that the exchange
--- rules ask for has an entry, and by the first positions of entries a list and each group are searched as 01 searches
--- them.
+-- rules ask for has an entry, by the first positions of entries a list and each group are searched as 01 searches them,
+-- and the policies are as many as the search tells.
 use mathlib.Core.Path.{_≡_, refl, sym, ap, _∙_}
 use mathlib.Core.Bool.{Bool, true, false, cond, _&&_, and-comm}
 use mathlib.Core.List.{List, [], _∷_}
@@ -27,6 +27,7 @@ use Rattle.rules.specs.Exchange.{resultOutcome, policiesOutcome, answerOutcome,
 use Rattle.rules.specs.Exchange.{policyIn, policyOutcome, policiesAt, eachPolicy, policyNumber, windowIn, windowAt, eachWindow}
 use Rattle.rules.specs.Exchange.{exchangeOutcome}
 use Rattle.rules.specs.Command.{commandGrammar}
+use Rattle.rules.proofs.Tests.{and-true}
 use Rattle.rules.proofs.Searches.{positions-next, positions-none, positions-number}
 use Rattle.dictionary.specs.Entries.{numberWhere, entryOf}
 use Rattle.log.specs.Log.{Logged}
@@ -35,7 +36,7 @@ use Rattle.log.proofs.Forests.{Holds, Stands, stands-at}
 use Rattle.exchange.specs.Firsts.{findIn}
 use Rattle.lists.specs.ByLog.{firstFault}
 use Rattle.lists.specs.Firsts.{noFirsts, firstsFrom}
-use Rattle.lists.specs.Exchanges.{firstsAt, hasEntry, isPolicy, policiesFrom, policyLogged, windowLogged, listsBy}
+use Rattle.lists.specs.Exchanges.{firstsAt, hasEntry, isPolicy, policyNumberFrom, policyLogged, windowLogged, listsBy}
 use Rattle.lists.proofs.Finds.{IsKnown, known-only, first-among, find-same}
 use Rattle.lists.proofs.Walked.{FamilyAt, each-of, walked-rows}
 use Rattle.lists.proofs.Firsts.{first-positions, member-positions}
@@ -141,22 +142,18 @@ module _ (ys : List Avp) (few : length ys ≤ mostAvps) (at : ℕ → Logged) wh
         (firstsAt at (length ys) i)
         (λ vendor code k. member-positions at vendor code mostAvps k ys a members rest above xs i here few)
 
-    -- its name and its depth are asked for in either order; as a policy it stands at depth 1, and its members at 2
-    policy-by : (own top : Bool) (end : ℕ) → eqb (a .depth) 1 ≡ top
-        → cond (own && top) (policyIn (findIn (firstsAt at (length ys) i) (length ys)) end) Pass
-        ≡ cond (top && own) (policyIn (member ys i 2) end) Pass
-    policy-by true true end e =
-        let d : a .depth ≡ 1 = eqb-true (a .depth) 1 e in
+    -- as a policy it stands at depth 1, and its members at 2
+    policy-by : (own : Bool) (end : ℕ) → isAt a 1 10415 4207 ≡ own
+        → cond own (policyIn (findIn (firstsAt at (length ys) i) (length ys)) end) Pass ≡ cond own (policyIn (member ys i 2) end) Pass
+    policy-by true end e =
+        let d : a .depth ≡ 1 = eqb-true (a .depth) 1 (and-true (eqb (a .depth) 1) (named a 10415 4207) e .0) in
         policy-same _ (member ys i 2) (rw d at group-finds) end
-    policy-by true false end e = refl
-    policy-by false true end e = refl
-    policy-by false false end e = refl
+    policy-by false end e = refl
 
     policy-at : policyLogged at (length ys) i ≡ policyAt ys i a
-    unfolding policyLogged dictionary numberWhere
+    unfolding policyLogged
     policy-at =
-        rw (has-name 10415 4207 tt, is-logged, here .here)
-        (policy-by (named a 10415 4207) (eqb (a .depth) 1) (endOf a) refl)
+        rw (is-policy at a i _ (here .stands .first), is-logged, here .here) (policy-by (isAt a 1 10415 4207) (endOf a) refl)
 
     window-at : (s : List ℕ) → windowLogged at ys s (length ys) i ≡ windowAt ys s i a
     unfolding windowLogged dictionary numberWhere
@@ -177,13 +174,13 @@ module _ (ys : List Avp) (few : length ys ≤ mostAvps) (at : ℕ → Logged) wh
 
     -- as many policies as the search tells
     number-from : (xs : List Avp) (i : ℕ) → Stands (entryOf dictionary) at i xs
-        → policiesFrom at (length xs) i ≡ howMany 1 10415 4207 xs
-    unfolding policiesFrom howMany
+        → policyNumberFrom at (length xs) i ≡ howMany 1 10415 4207 xs
+    unfolding policyNumberFrom howMany
     number-from [] i s = refl
     number-from (a ∷ xs) i s = rw (is-policy at a i _ (s .0), number-from xs (i + 1) (s .1))
 
-    number-of : policiesFrom at (length ys) 0 ≡ policyNumber ys
-    number-of = number-from ys 0 stands ∙ sym (positions-number ys 0 1 10415 4207)
+    pub policies-number : policyNumberFrom at (length ys) 0 ≡ policyNumber ys
+    policies-number = number-from ys 0 stands ∙ sym (positions-number ys 0 1 10415 4207)
 
     windows-of : (s : List ℕ) → firstFault (windowLogged at ys s (length ys)) (length ys) 0 ≡ eachWindow ys s 0 ys
     unfolding eachWindow
@@ -202,12 +199,12 @@ module _ (ys : List Avp) (few : length ys ≤ mostAvps) (at : ℕ → Logged) wh
 
     exchange-of : (request : Bool) (s : List ℕ) (end : ℕ)
         → exchangeBy (findIn (firstsFrom (length ys) at 0 (length ys) noFirsts) (length ys)) request ys s end
-        (policiesFrom at (length ys) 0) (firstFault (policyLogged at (length ys)) (length ys) 0)
+        (policyNumberFrom at (length ys) 0) (firstFault (policyLogged at (length ys)) (length ys) 0)
         (firstFault (windowLogged at ys s (length ys)) (length ys) 0)
         ≡ exchangeOutcome request ys s end
     unfolding exchangeBy
     exchange-of request s end =
-        rw (number-of, policies-of, windows-of s)
+        rw (policies-number, policies-of, windows-of s)
         (ap (λ (o : Outcome). orElse o (eachWindow ys s 0 ys))
         (exchange-same _ (first ys) own-finds request ys s end (policyNumber ys) (eachPolicy ys)))
 

@@ -1,5 +1,5 @@
 -- Laws of the checks by the numbers of a log: the members of a list one by one, what is said at one position after
--- another, and that what is no group is neither policy nor window.
+-- another, how many policies there are, and that what is no group is neither policy nor window.
 use mathlib.Core.Path.{_≡_, refl, sym, ap, _∙_}
 use mathlib.Core.List.{List, [], _∷_}
 use mathlib.Core.Bool.{Bool, true, false, cond}
@@ -21,7 +21,6 @@ use Rattle.rules.specs.Header.{vendor3GPP, isRequest}
 use Rattle.rules.specs.Rows.{admitsOthers}
 use Rattle.rules.specs.Dictionary.{dictionary, membersOf}
 use Rattle.rules.specs.RowChecks.{counted, byAdmission, missing}
-use Rattle.rules.specs.Search.{oneIf}
 use Rattle.rules.specs.Exchange.{exchangeBy}
 use Rattle.rules.specs.Command.{commandGrammar}
 use Rattle.rules.proofs.Outcomes.{refused-first, or-pass, or-assoc}
@@ -30,7 +29,7 @@ use Rattle.log.specs.Log.{Logged}
 use Rattle.exchange.specs.Firsts.{findIn}
 use Rattle.lists.specs.ByLog.{admissionAt, loggedMembers, membersBy, listBy, groupAt, firstFault, rowsBy}
 use Rattle.lists.specs.Firsts.{noFirsts, firstsFrom}
-use Rattle.lists.specs.Exchanges.{isPolicy, policiesFrom, policyLogged, windowLogged, listsBy}
+use Rattle.lists.specs.Exchanges.{isPolicy, policyNumberFrom, policyLogged, windowLogged, listsBy}
 
 -- what is left of a list from position i on, with the counts so far
 abbrev pub leftBy : (ℕ → Logged) → ℕ → Grammar → ℕ → List ℕ → Bool → ℕ → Outcome
@@ -124,32 +123,32 @@ module _ (said : ℕ → Outcome) (count : ℕ) where
 
 module _ (at : ℕ → Logged) (count : ℕ) where
   -- as many as `number` are before position i
-  pub record Counted (number i : ℕ) : Type 0 where
-    pub left : number + policiesFrom at (count - i) i ≡ policiesFrom at count 0
+  pub record PoliciesBefore (number i : ℕ) : Type 0 where
+    pub left : number + policyNumberFrom at (count - i) i ≡ policyNumberFrom at count 0
     pub few : number ≤ i
 
-  pub counted-none : Counted 0 0
-  counted-none = record { left = rw (sub-zero count) (omega arith); few = omega arith }
+  pub policies-none : PoliciesBefore 0 0
+  policies-none = record { left = rw (sub-zero count) (omega arith); few = omega arith }
 
-  pub counted-next : (number i : ℕ) → Counted number i → i < count → Counted (number + oneIf (isPolicy (at i))) (i + 1)
-  unfolding policiesFrom
-  counted-next number i c h =
+  pub policies-next : (number i : ℕ) → PoliciesBefore number i → i < count → PoliciesBefore (number + cond (isPolicy (at i)) 1 0) (i + 1)
+  unfolding policyNumberFrom
+  policies-next number i c h =
       let n : count - i ≡ suc (count - (i + 1)) = omega arith in
       let left = rw n at (c .left) in
       let few = c .few in
       record { left = omega arith; few = one-more (isPolicy (at i)) few }
     where
-      one-more : (b : Bool) → number ≤ i → number + oneIf b ≤ i + 1
+      one-more : (b : Bool) → number ≤ i → number + cond b 1 0 ≤ i + 1
       one-more true few = omega arith
       one-more false few = omega arith
 
   -- where there is none
-  pub counted-other : (number i : ℕ) → Counted number i → i < count → isPolicy (at i) ≡ false → Counted number (i + 1)
-  counted-other number i c h e = rw (e, add-zero number) at (counted-next number i c h)
+  pub policies-other : (number i : ℕ) → PoliciesBefore number i → i < count → isPolicy (at i) ≡ false → PoliciesBefore number (i + 1)
+  policies-other number i c h e = rw (e, add-zero number) at (policies-next number i c h)
 
-  pub counted-all : (number i : ℕ) → Counted number i → count ≤ i → number ≡ policiesFrom at count 0
-  unfolding policiesFrom
-  counted-all number i c h =
+  pub policies-all : (number i : ℕ) → PoliciesBefore number i → count ≤ i → number ≡ policyNumberFrom at count 0
+  unfolding policyNumberFrom
+  policies-all number i c h =
       let n : count - i ≡ 0 = omega arith in
       let left = rw n at (c .left) in
       omega arith
@@ -194,7 +193,7 @@ module _ (at : ℕ → Logged) (xs : List Avp) (flags : ℕ) (s : List ℕ) (end
 
     pub rows-passed : groups ≡ Pass
         → exchangeBy (findIn (firstsFrom count at 0 count noFirsts) count) (isRequest flags) xs s end
-        (policiesFrom at count 0) (firstFault (policyLogged at count) count 0) (firstFault (windowLogged at xs s count) count 0)
+        (policyNumberFrom at count 0) (firstFault (policyLogged at count) count 0) (firstFault (windowLogged at xs s count) count 0)
         ≡ listsBy at xs flags s end count
     unfolding listsBy rowsBy
     rows-passed e = rw (sym is ∙ passed, sym all ∙ e)

@@ -1,5 +1,5 @@
 -- The exchange rules by the numbers that a log holds: the members of the command's own list and of each group are
--- searched by their first positions. Of the log of a walk they say what document 01 says of its AVPs
+-- searched by their first positions, and the policies are counted. Of the log of a walk they say what document 01 says of its AVPs
 -- (proofs/Exchanges).
 use mathlib.Core.Path.{_≡_}
 use Prim.Native.Nat.{ℕ, zero, suc, _+_, _-_, min}
@@ -15,7 +15,6 @@ use Rattle.rules.specs.Header.{vendor3GPP, isRequest}
 use Rattle.rules.specs.Avp.{endOf}
 use Rattle.rules.specs.Dictionary.{dictionary}
 use Rattle.rules.specs.Walk.{mostAvps}
-use Rattle.rules.specs.Search.{oneIf}
 use Rattle.rules.specs.Exchange.{policyIn, windowIn, exchangeBy}
 use Rattle.rules.specs.Command.{commandGrammar}
 use Rattle.dictionary.specs.Entries.{entryOf}
@@ -37,10 +36,10 @@ hasEntry l vendor code = eqb (l .entry) (entryOf dictionary vendor code)
 abbrev pub isPolicy : Logged → Bool
 isPolicy l = hasEntry l vendor3GPP 4207 && eqb (l .avp .depth) 1
 
--- how many of the n AVPs from position i on are
-unfoldable pub policiesFrom : (ℕ → Logged) → ℕ → ℕ → ℕ
-policiesFrom at zero i = 0
-policiesFrom at (suc n) i = oneIf (isPolicy (at i)) + policiesFrom at n (i + 1)
+-- how many such policies there are among the n AVPs from position i on
+unfoldable pub policyNumberFrom : (ℕ → Logged) → ℕ → ℕ → ℕ
+policyNumberFrom at zero i = 0
+policyNumberFrom at (suc n) i = cond (isPolicy (at i)) 1 0 + policyNumberFrom at n (i + 1)
 
 -- what is said of an AVP as such a policy; `find` is the search of its members
 abbrev pub asPolicy : (ℕ → ℕ → Found) → Logged → Outcome
@@ -61,7 +60,7 @@ windowLogged at xs s count i = asWindow (findIn (firstsAt at count i) count) xs 
 -- policies and of windows
 pub record GroupsJudged (at : ℕ → Logged) (xs : List Avp) (s : List ℕ) (count : ℕ) (r : Groups) : Type 0 where
   pub rows : r .rows ≡ firstFault (groupAt at count) count 0
-  pub number : r .rows ≡ Pass → r .number ≡ policiesFrom at count 0
+  pub number : r .rows ≡ Pass → r .number ≡ policyNumberFrom at count 0
   pub policies : r .rows ≡ Pass → r .policies ≡ firstFault (policyLogged at count) count 0
   pub windows : r .rows ≡ Pass → r .windows ≡ firstFault (windowLogged at xs s count) count 0
 
@@ -70,7 +69,7 @@ unfoldable pub listsBy : (ℕ → Logged) → List Avp → ℕ → List ℕ → 
 listsBy at xs flags s end count =
     orElse (rowsBy at (commandGrammar flags) end count)
     (exchangeBy (findIn (firstsFrom count at 0 count noFirsts) count) (isRequest flags) xs s end
-    (policiesFrom at count 0) (firstFault (policyLogged at count) count 0) (firstFault (windowLogged at xs s count) count 0))
+    (policyNumberFrom at count 0) (firstFault (policyLogged at count) count 0) (firstFault (windowLogged at xs s count) count 0))
 
 -- by a log with so many AVPs, above 256 read as 256
 abbrev pub listsIn : ℕ → List ℕ → List ℕ → ℕ → ℕ → Outcome

@@ -1,10 +1,11 @@
 // The groups of a command in walk order: the rows of each, and what the exchange rules say of it. Faults of the
-// exchange rules come after those of all rows, so the first of the policies and of the windows are kept.
+// exchange rules come after those of all rows, so the first of the policies and of the windows are kept, and how many
+// policies there are.
 ghost use mathlib.Core.Path.{_≡_};
+ghost use mathlib.Core.Bool.{cond};
 ghost use Prim.Native.Nat.{_+_, _≤_, _<_, min};
 ghost use Rattle.rules.specs.Verdict.{orElse};
 ghost use Rattle.rules.specs.Walk.{mostAvps};
-ghost use Rattle.rules.specs.Search.{oneIf};
 ghost use Rattle.log.specs.Log.{loggedOf, avpsIn};
 ghost use Rattle.exchange.specs.Firsts.{findIn};
 ghost use Rattle.lists.specs.Exchanges.{isPolicy, asPolicy, asWindow, GroupsJudged};
@@ -50,10 +51,10 @@ fn is_policy(log: &[u32; limits::LOG_NUMBERS], position: usize) -> bool
     log::depth_at(log, position) == 1
 }
 
-// How many transfer policies there are, with the group at a position.
+// How many transfer policies of the command's own list there are, with the group at a position.
 fn with_number(before: usize, log: &[u32; limits::LOG_NUMBERS], position: usize) -> usize
     requires { ⌜ before < mostAvps ⌝ }
-    ensures { λ r. ⌜ r ≡ before + oneIf (isPolicy (loggedOf (now (log .entry)) position)) ⌝ }
+    ensures { λ r. ⌜ r ≡ before + cond (isPolicy (loggedOf (now (log .entry)) position)) 1 0 ⌝ }
 {
     if is_policy(log, position) {
         return before + 1;

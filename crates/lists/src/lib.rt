@@ -1,6 +1,7 @@
 // The lists of a command over a lent log (01, Order of checks, Rows and Exchange rules): the command's own, then each
 // group in walk order. The log has each AVP's entry, by which its row is looked up, and the position after its last
-// descendant, where the next member stands. The exchange rules go by the first positions that the rows' pass keeps.
+// descendant, where the next member stands. The exchange rules go by the first positions that the rows' pass keeps, and
+// by the number of policies that the loop over groups counts.
 ghost use mathlib.Core.Path.{_≡_};
 ghost use mathlib.Core.Bool.{cond};
 ghost use Prim.Native.Nat.{_≤_, min};

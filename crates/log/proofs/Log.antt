@@ -24,7 +24,7 @@ module _ (log : List ℕ) (i : ℕ) where
   unfolding avpOf
   avpOf-in h = rw (lt-ltb i 256 h)
 
-  -- as the code reads them: an AVP number by number, and its depth and its name alone
+  -- as the code reads them: an AVP number by number, and its depth alone
   pub avpOf-by : i < 256 → (length : ℕ) → length ≡ getD log (i * 9 + 6) 0 - getD log (i * 9 + 5) 0
       → _≡_ {A = Avp}
       record {
@@ -41,10 +41,6 @@ module _ (log : List ℕ) (i : ℕ) where
 
   pub depth-in : i < 256 → getD log (i * 9) 0 ≡ avpOf log i .depth
   depth-in h = rw (avpOf-in h)
-
-  pub named-in : i < 256 → (vendor code : ℕ) (r : Bool)
-      → r ≡ (eqb (getD log (i * 9 + 1) 0) vendor && eqb (getD log (i * 9 + 2) 0) code) → r ≡ named (avpOf log i) vendor code
-  named-in h vendor code r e = e ∙ rw (avpOf-in h)
 
   -- the end of the data
   pub data-end-out : 256 ≤ i → endOf (avpOf log i) ≡ 0
@@ -152,11 +148,6 @@ unfolding avpsIn
 avps-cons log count i h k =
     let e : 0 + i ≡ i = omega arith in
     drop-avpsFrom log 0 (min count 256) i (omega arith) ∙ rw (add-one i, e)
-
-pub avps-end : (log : List ℕ) (count i : ℕ) → count ≤ 256 → count ≤ i → drop i (avpsIn log count) ≡ []
-avps-end log count i h k =
-    let short : length (avpsIn log count) ≤ i = rw (length-avpsIn log count h) k in
-    drop-of-length-le (avpsIn log count) short
 
 pub avps-at : (log : List ℕ) (count i : ℕ) → count ≤ 256 → i < count → avpIn (avpsIn log count) i ≡ avpOf log i
 avps-at log count i h k =

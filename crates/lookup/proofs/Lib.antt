@@ -1,3 +1,3 @@
--- The laws behind the proofs of data and search, which other crates cite.
+-- The laws behind the proofs of data, which other crates cite, and of the search.
 pub mod Positions
-pub mod Searches
+mod Searches

@@ -1,5 +1,5 @@
-// 01, The record: what is looked up in a record, the data of a position and, with 02 [9], the nth AVP of a vendor and
-// code. Only the record's numbers are searched: a record is laid out as numbers first.
+// 01, The record: what is looked up in a record, the data of a position and, with 02 [9], the nth AVP at depth 1 with a
+// vendor and code. A search goes over the record's numbers: a record is laid out as numbers first.
 ghost use mathlib.Core.Path.{_≡_};
 ghost use Prim.Native.Nat.{_+_, _<_};
 ghost use denote.Ref.{ptr};

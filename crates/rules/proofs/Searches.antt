@@ -12,7 +12,7 @@ use lib.Dec.{ltb}
 use lib.ListN.{length}
 use Rattle.rules.specs.declared.Avp.{Avp}
 use Rattle.rules.specs.declared.Found.the-variants.{At, Nothing}
-use Rattle.rules.specs.Search.{isAt, withPosition, positionsFrom, nth, firstFrom, oneIf, howMany}
+use Rattle.rules.specs.Search.{isAt, withPosition, positionsFrom, nth, firstFrom, howMany}
 
 -- ---- the next AVP
 
@@ -37,9 +37,6 @@ module _ (i floor depth : ℕ) (a : Avp) (xs : List Avp) (vendor code : ℕ) whe
 
   pub first-above : a .depth < floor → firstFrom i floor depth (a ∷ xs) vendor code ≡ Nothing
   first-above h = rw (positions-above h)
-
-  pub first-here : floor ≤ a .depth → isAt a depth vendor code ≡ true → firstFrom i floor depth (a ∷ xs) vendor code ≡ At i
-  first-here h e = rw (positions-here h e)
 
   pub first-later : floor ≤ a .depth → isAt a depth vendor code ≡ false
       → firstFrom i floor depth (a ∷ xs) vendor code ≡ firstFrom (i + 1) floor depth xs vendor code
@@ -117,7 +114,7 @@ positions-number (a ∷ xs) i depth vendor code =
     rw (le-ltb (a .depth) 0 (omega arith))
     (long (isAt a depth vendor code) _ _ (positions-number xs (i + 1) depth vendor code))
   where
-    long : (own : Bool) (is : List ℕ) (n : ℕ) → length is ≡ n → length (withPosition own i is) ≡ oneIf own + n
+    long : (own : Bool) (is : List ℕ) (n : ℕ) → length is ≡ n → length (withPosition own i is) ≡ cond own 1 0 + n
     long true is n e = omega (arith, e)
     long false is n e = omega (arith, e)
 

@@ -25,6 +25,8 @@ pub mod States
 -- what a search finds (request [9]), and the law on ordinals that carries it
 pub mod Nth
 pub mod Found
+pub mod Recorded
+pub mod Policies
 -- request [2]: total volume beside a direction
 pub mod Volumes
 -- request [5]: times and windows

@@ -195,34 +195,50 @@ windowed =
 unfoldable pub answerOf : ℕ → List ℕ → List ℕ
 answerOf length avps = answerHeader length ++ answerBegins ++ avp 268 0x40 12 (octets 4 2001) ++ avps
 
--- its 4202 and its 2207; a policy, and one without 432
+-- its 4202 and its 2207
 unfoldable pub reference : List ℕ
 reference = avpOf3GPP 4202 0xC0 13 (letter 0x72)
 
 unfoldable pub address : List ℕ
 address = avpOf3GPP 2207 0x80 13 (letter 0x61)
 
+-- a policy of this length with these AVPs behind its 4208, and a whole one, of 84 octets
+unfoldable pub policyOf : ℕ → List ℕ → List ℕ
+policyOf length members = avpOf3GPP 4207 0xC0 length (avpOf3GPP 4208 0xC0 16 (octets 4 1) ++ members)
+
+unfoldable pub rating : List ℕ
+rating = avp 432 0x40 12 (octets 4 1)
+
 unfoldable pub policy : List ℕ
-policy =
-    avpOf3GPP 4207 0xC0 84
-    (avpOf3GPP 4208 0xC0 16 (octets 4 1) ++ windowOf 10 11 ++ avp 432 0x40 12 (octets 4 1))
+policy = policyOf 84 (windowOf 10 11 ++ rating)
 
-unfoldable pub unrated : List ℕ
-unrated = avpOf3GPP 4207 0xC0 72 (avpOf3GPP 4208 0xC0 16 (octets 4 2) ++ windowOf 10 11)
+-- a 284 of this length with these AVPs behind its own two
+unfoldable pub proxyOf : ℕ → List ℕ → List ℕ
+proxyOf length members = avp 284 0x40 length (avp 280 0x40 9 (letter 0x68) ++ avp 33 0x40 9 (letter 0x73) ++ members)
 
--- the number of policies, as request [9] tells it, and each in order: one without 4202, and with it; two without 2207,
--- and with it; three of which the second has no 432; two such, the first of which counts; one in a group, which neither
--- counts nor is judged
+-- what the number of policies asks for, which request [9] tells, and each policy in order
 unfoldable pub policied : List Case
 policied =
+    -- one, two and three without 4202, which is asked for before 2207; one with it
     case (answerOf 184 policy) 5005 184 vendor3GPP 4202
+    ∷ case (answerOf 268 (policy ++ policy)) 5005 268 vendor3GPP 4202
+    ∷ case (answerOf 368 (policy ++ policy ++ policy ++ address)) 5005 368 vendor3GPP 4202
     ∷ case (answerOf 200 (reference ++ policy)) 0 0 0 0
+    -- two and three without 2207; three with it
     ∷ case (answerOf 284 (policy ++ reference ++ policy)) 5005 284 vendor3GPP 2207
-    ∷ case (answerOf 300 (policy ++ reference ++ policy ++ address)) 0 0 0 0
-    ∷ case (answerOf 372 (reference ++ address ++ policy ++ unrated ++ policy)) 5005 288 0 432
-    ∷ case (answerOf 360 (reference ++ address ++ policy ++ unrated ++ unrated)) 5005 288 0 432
-    ∷ case (answerOf 304 (reference ++ policy
-    ++ avp 284 0x40 104 (avp 280 0x40 9 (letter 0x68) ++ avp 33 0x40 9 (letter 0x73) ++ unrated))) 0 0 0 0
+    ∷ case (answerOf 368 (reference ++ policy ++ policy ++ policy)) 5005 368 vendor3GPP 2207
+    ∷ case (answerOf 384 (policy ++ reference ++ policy ++ policy ++ address)) 0 0 0 0
+    -- one in a group neither counts nor is judged, beside another and alone
+    ∷ case (answerOf 316 (reference ++ policy ++ proxyOf 116 policy)) 0 0 0 0
+    ∷ case (answerOf 160 (proxyOf 60 (policyOf 28 []))) 0 0 0 0
+    -- of the second and the third at fault the second counts; the third alone; 4204 before 432; 4204 in a group
+    ∷ case (answerOf 328 (reference ++ address ++ policy ++ policyOf 72 (windowOf 10 11) ++ policyOf 40 rating)) 5005 288 0 432
+    ∷ case (answerOf 372 (reference ++ address ++ policy ++ policy ++ policyOf 72 (windowOf 10 11))) 5005 372 0 432
+    ∷ case (answerOf 144 (policyOf 28 [] ++ reference)) 5005 128 vendor3GPP 4204
+    ∷ case (answerOf 232 (reference ++ policyOf 116 (rating ++ proxyOf 76 (windowOf 10 11)))) 5005 232 vendor3GPP 4204
+    -- the result is asked for before 4202, and 4202 before what a policy holds
+    ∷ case (answerHeader 172 ++ answerBegins ++ policy) 5005 172 0 268
+    ∷ case (answerOf 172 (policyOf 72 (windowOf 10 11))) 5005 172 vendor3GPP 4202
     ∷ []
 
 -- and two Time values with the seconds from the first to the second
@@ -304,7 +320,7 @@ listings bs = map (λ b. listing (b .octets)) bs
 computed : (verdicts cases ≡ answers cases) × (verdicts further ≡ answers further) × (verdicts totals ≡ answers totals)
     × (verdicts windowed ≡ answers windowed) × (verdicts policied ≡ answers policied)
     × (listing book ≡ bookListing) × (listings furtherBooks ≡ expected furtherBooks)
-unfolding headOfBook bookCase furtherBooks expected listings verdicts answers cases case header h avp avpOf3GPP sBegins vendorId sGoesOn sEnds sFront s further totals windowed windowOf provider numberOfUes volumeOf firstRequestOf answerBegins answerOf reference address policy unrated policied book bookListing octets numberAt padded lengthOutcome applicationOutcome flagsOutcome headerOutcome avpAt rowsOf admitsOthers dictionary find framing wrongFlags unsupported wrongWidth wrongValue tooDeep contents checked walkAvp walkList admissionFrom memberOutcome missingFrom membersOutcome membersAt groupsOutcome rowsOutcome positionsFrom direction volume totalAlone firstRequest laterRequest requestOutcome resultOutcome policiesOutcome policyIn policiesAt answerOutcome moment isBefore windowIn eachWindow exchangeBy walkOf listsOutcome commandOutcome commandVerdict digits isCut linesFrom isBook listing
+unfolding headOfBook bookCase furtherBooks expected listings verdicts answers cases case header h avp avpOf3GPP sBegins vendorId sGoesOn sEnds sFront s further totals windowed windowOf provider numberOfUes volumeOf firstRequestOf answerBegins answerOf reference address policyOf rating policy proxyOf policied book bookListing octets numberAt padded lengthOutcome applicationOutcome flagsOutcome headerOutcome avpAt rowsOf admitsOthers dictionary find framing wrongFlags unsupported wrongWidth wrongValue tooDeep contents checked walkAvp walkList admissionFrom memberOutcome missingFrom membersOutcome membersAt groupsOutcome rowsOutcome positionsFrom direction volume totalAlone firstRequest laterRequest requestOutcome resultOutcome policiesOutcome policyIn policiesAt answerOutcome moment isBefore windowIn eachWindow exchangeBy walkOf listsOutcome commandOutcome commandVerdict digits isCut linesFrom isBook listing
 computed = (refl, refl, refl, refl, refl, refl, refl)
 
 -- each marked case has its answer

@@ -5,7 +5,7 @@
 use Prim.Native.Nat.{ℕ, _+_}
 use mathlib.Core.List.{List, [], _∷_}
 use mathlib.Core.Bool.{Bool, cond}
-use lib.Dec.{ltb, eqb}
+use lib.Dec.{leb, eqb}
 use Rattle.rules.specs.declared.Avp.{Avp}
 use Rattle.rules.specs.declared.Outcome.{Outcome}
 use Rattle.rules.specs.declared.Outcome.the-variants.{Pass}
@@ -94,8 +94,8 @@ resultOutcome find xs end = resultBy xs end (find 0 268) (find 0 297)
 -- with any 4207: 4202. With two or more: 2207. `number` is how many 4207 the list has
 unfoldable pub policiesOutcome : (ℕ → ℕ → Found) → ℕ → ℕ → Outcome
 policiesOutcome find end number =
-    orElse (cond (ltb number 1) Pass (require find end vendor3GPP 4202))
-    (cond (ltb number 2) Pass (require find end vendor3GPP 2207))
+    orElse (cond (leb 1 number) (require find end vendor3GPP 4202) Pass)
+    (cond (leb 2 number) (require find end vendor3GPP 2207) Pass)
 
 -- a 4207 whose members `find` searches, and which ends at `end`, holds 4204, then 432
 unfoldable pub policyIn : (ℕ → ℕ → Found) → ℕ → Outcome
@@ -105,15 +105,16 @@ policyIn find end = orElse (require find end vendor3GPP 4204) (require find end 
 abbrev pub policyOutcome : List Avp → ℕ → Outcome
 policyOutcome xs i = policyIn (member xs i 2) (endOf (avpIn xs i))
 
--- the 4207 at these positions, in order
+-- what is said of the 4207 at these positions, in order
 unfoldable pub policiesAt : List Avp → List ℕ → Outcome
 policiesAt xs [] = Pass
 policiesAt xs (i ∷ is) = orElse (policyOutcome xs i) (policiesAt xs is)
 
--- of the command's own list each 4207 in order, and how many the search tells
+-- each 4207 of the command's own list in order: the positions are those that the search's ordinals run through
 abbrev pub eachPolicy : List Avp → Outcome
 eachPolicy xs = policiesAt xs (positions xs vendor3GPP 4207)
 
+-- how many there are, as the search tells
 abbrev pub policyNumber : List Avp → ℕ
 policyNumber xs = search xs vendor3GPP 4207 0 .number
 

@@ -29,9 +29,11 @@ pub mod Agreement
 pub mod Calls
 pub mod Demands
 pub mod Order
--- and what request [2] claims of the volumes in a request, and request [5] of the windows
+-- and what request [2] claims of the volumes in a request, request [5] of the windows, and request [9] of the policies
+-- of an answer
 pub mod Volumes
 pub mod Windows
+pub mod Policies
 -- beyond 01: the canonical form of a command, which names a state
 pub mod Canonical
 -- The book and its listing: the lines, and the whole

@@ -1,5 +1,6 @@
 -- 01, The record: the record of an accepted command, the empty record, data of a position, and the search.
-use Prim.Native.Nat.{ℕ, _+_, _-_, min}
+use mathlib.Core.Path.{_≡_}
+use Prim.Native.Nat.{ℕ, _+_, _-_, _<_, min}
 use mathlib.Core.List.{List, _++_}
 use mathlib.Core.Bool.{Bool, cond, _&&_}
 use lib.ListN.{length, take, drop, replicate}
@@ -13,7 +14,7 @@ use Rattle.rules.specs.declared.Sought.{Sought}
 use Rattle.rules.specs.Header.{commandFlags, hopByHop, endToEnd, isRequest, isProxiable, isError, isRetransmitted}
 use Rattle.rules.specs.Avp.{endOf}
 use Rattle.rules.specs.Walk.{mostAvps, avpsOf}
-use Rattle.rules.specs.Search.{blank, avpIn, search}
+use Rattle.rules.specs.Search.{blank, avpIn, search, howMany, Stands}
 use Rattle.rules.specs.Command.{commandOutcome, commandVerdict, walkOf}
 
 -- AVPs in room for 256; unused places are 0
@@ -77,3 +78,16 @@ dataAt r i s = take (dataLength r i (length s)) (drop (dataStart r i (length s))
 -- request [9]: the search among the AVPs of the record
 unfoldable pub searchRecord : Record → ℕ → ℕ → ℕ → Sought
 searchRecord r vendor code ordinal = search (recorded r) vendor code ordinal
+
+-- ---- what is claimed of it (proofs/demands/Recorded)
+
+-- how many positions are used; a count above 256 is read as 256
+abbrev pub used : Record → ℕ
+used r = min (r .count) mostAvps
+
+-- the AVP at a used position stands at depth 1 with a vendor and code, and has exactly as many of them before it at
+-- depth 1 as the ordinal says
+pub record NthRecorded (r : Record) (vendor code ordinal i : ℕ) : Type 0 where
+  pub within : i < used r
+  pub here : Stands (avpIn (r .avps) i) 1 vendor code
+  pub before : howMany 1 vendor code (take i (r .avps)) ≡ ordinal

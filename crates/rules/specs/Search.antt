@@ -24,7 +24,7 @@ avpIn xs i = getD xs i blank
 abbrev pub isAt : Avp → ℕ → ℕ → ℕ → Bool
 isAt a depth vendor code = eqb (a .depth) depth && named a vendor code
 
--- some positions, with position i before them where it is one of theirs
+-- some positions, with position i before them where a test holds
 abbrev pub withPosition : Bool → ℕ → List ℕ → List ℕ
 withPosition true i is = i ∷ is
 withPosition false i is = is
@@ -37,7 +37,7 @@ positionsFrom i floor depth (a ∷ xs) vendor code =
     cond (ltb (a .depth) floor) []
     (withPosition (isAt a depth vendor code) i (positionsFrom (i + 1) floor depth xs vendor code))
 
--- the one of some positions that an ordinal from 0 says; none where the ordinal is not below their number
+-- the one of some positions with an ordinal, counted from 0; none where the ordinal is not below their number
 abbrev pub nth : List ℕ → ℕ → Found
 nth [] ordinal = Nothing
 nth (i ∷ is) zero = At i
@@ -47,11 +47,11 @@ nth (i ∷ is) (suc ordinal) = nth is ordinal
 abbrev pub firstFrom : ℕ → ℕ → ℕ → List Avp → ℕ → ℕ → Found
 firstFrom i floor depth xs vendor code = nth (positionsFrom i floor depth xs vendor code) 0
 
--- the AVPs at depth 1 with a vendor and code: those of the command's own list, by their positions
+-- the AVPs at depth 1 with a vendor and code, which are members of the command's own list, by their positions in order
 abbrev pub positions : List Avp → ℕ → ℕ → List ℕ
 positions xs vendor code = positionsFrom 0 0 1 xs vendor code
 
--- request [9]: a search takes an ordinal too, gives the one that the ordinal says, and tells how many there are
+-- request [9]: a search takes an ordinal too, gives the one of them with that ordinal, and tells how many there are
 abbrev pub search : List Avp → ℕ → ℕ → ℕ → Sought
 search xs vendor code ordinal =
     record { found = nth (positions xs vendor code) ordinal; number = length (positions xs vendor code) }
@@ -69,29 +69,12 @@ abbrev pub positionOf : Found → ℕ
 positionOf (At i) = i
 positionOf Nothing = mostAvps
 
--- ---- what is claimed (proofs/demands/Found)
-
--- no AVP up to a position stands above the depth `floor`
-abbrev pub Inside : ℕ → List Avp → ℕ → Type 0
-Inside floor xs k = (j : ℕ) → j ≤ k → floor ≤ avpIn xs j .depth
-
--- what a number gains where something is so
-abbrev pub oneIf : Bool → ℕ
-oneIf true = 1
-oneIf false = 0
+-- ---- what is claimed (proofs/demands/Nth, Found)
 
 -- how many of some AVPs stand at a depth with a vendor and code
 unfoldable pub howMany : ℕ → ℕ → ℕ → List Avp → ℕ
 howMany depth vendor code [] = 0
-howMany depth vendor code (a ∷ xs) = oneIf (isAt a depth vendor code) + howMany depth vendor code xs
-
--- the AVP at a position stands at a depth with a vendor and code, with as many such AVPs before it as the ordinal says,
--- and before any AVP above the depth `floor`
-pub record IsNth (floor depth : ℕ) (xs : List Avp) (vendor code ordinal k : ℕ) : Type 0 where
-  pub within : k < length xs
-  pub here : isAt (avpIn xs k) depth vendor code ≡ true
-  pub before : howMany depth vendor code (take k xs) ≡ ordinal
-  pub inside : Inside floor xs k
+howMany depth vendor code (a ∷ xs) = cond (isAt a depth vendor code) 1 0 + howMany depth vendor code xs
 
 -- an AVP has this depth, vendor and code
 pub record Stands (a : Avp) (depth vendor code : ℕ) : Type 0 where

@@ -62,8 +62,8 @@ pub enum Found {
     Nothing,
 }
 
-// The answer of a search for the nth AVP with a vendor and code (02, [9]): what it finds, and how many of them there
-// are, which is told with none too.
+// The answer of a search for the nth AVP at depth 1 with a vendor and code (02, [9]): what it finds, and how many of
+// them there are, which is told with none too.
 pub struct Sought {
     pub found: Found,
     pub number: usize,

@@ -1,8 +1,8 @@
 //! Reads an answer in hex from the command line and prints the Transfer-Policies (4207 of 3GPP) that it offers: their
-//! number; Reference-Id and PCRF-Address of the answer; of each policy its ordinal and position, Transfer-Policy-Id,
-//! Rating-Group, bandwidths, and Time-Window with its seconds; then which are the second and the third. What the answer
-//! lacks is left out. For a refused command it prints the verdict. Ends with status 0 where it is accepted, 1 where it
-//! is refused, 2 where the arguments are no octets in hex.
+//! number; Reference-Id and PCRF-Address of the answer, in hex; of each policy its ordinal and position,
+//! Transfer-Policy-Id, Rating-Group, bandwidths, and Time-Window with its seconds; then which are the second and the
+//! third. What the answer lacks is left out. For a refused command it prints the verdict. Ends with status 0 where the
+//! answer is accepted, 1 where it is refused, 2 where the arguments are no octets in hex or the command is a request.
 //!
 //! `cargo run --example policies -- $(sed 's/#.*//' tests/commands/three-policies.hex)`
 
@@ -45,7 +45,7 @@ impl Command {
     /// The data of the first AVP of 3GPP with this code in the command's own list.
     fn print_first(&self, word: &str, code: u32) {
         if let Some(position) = self.record.search(VENDOR_3GPP, code, 0).position {
-            println!("{word}: {}", hex::text_of(self.record.data(position, &self.octets)));
+            println!("{word} in hex: {}", hex::text_of(self.record.data(position, &self.octets)));
         }
     }
 
@@ -79,7 +79,7 @@ impl Command {
 }
 
 fn main() -> ExitCode {
-    let words: Vec<String> = std::env::args().skip(1).collect();
+    let words = hex::words();
     let Some(octets) = hex::octets_of(&words) else {
         eprintln!("usage: policies HEX.. (an answer, two hex digits an octet)");
         return ExitCode::from(2);
@@ -91,6 +91,10 @@ fn main() -> ExitCode {
             return ExitCode::FAILURE;
         }
     };
+    if command.record.is_request() {
+        eprintln!("policies: the command is a request, which offers no policies");
+        return ExitCode::from(2);
+    }
     let policies = command.record.all(VENDOR_3GPP, TRANSFER_POLICY);
     println!("policies: {}", policies.len());
     command.print_first("reference", 4202);

@@ -9,7 +9,7 @@ mod hex;
 use std::process::ExitCode;
 
 fn main() -> ExitCode {
-    let words: Vec<String> = std::env::args().skip(1).collect();
+    let words = hex::words();
     let arguments = words.split_first().and_then(|(first, rest)| Some((first.parse().ok()?, hex::octets_of(rest)?)));
     let Some((identifier, octets)) = arguments else {
         eprintln!("usage: rewrite IDENTIFIER HEX.. (a hop-by-hop identifier, then a command, two hex digits an octet)");

@@ -10,7 +10,7 @@ use std::collections::HashMap;
 use std::process::ExitCode;
 
 fn main() -> ExitCode {
-    let words: Vec<String> = std::env::args().skip(1).collect();
+    let words = hex::words();
     let commands: Option<Vec<Vec<u8>>> = words.iter().map(|word| hex::octets_of(std::slice::from_ref(word))).collect();
     let Some(commands) = commands else {
         eprintln!("usage: states HEX.. (commands, one an argument, two hex digits an octet)");

@@ -9,7 +9,7 @@ mod hex;
 use std::process::ExitCode;
 
 fn main() -> ExitCode {
-    let words: Vec<String> = std::env::args().skip(1).collect();
+    let words = hex::words();
     let Some(octets) = hex::octets_of(&words) else {
         eprintln!("usage: verdict HEX.. (a command, two hex digits an octet)");
         return ExitCode::from(2);

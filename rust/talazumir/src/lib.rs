@@ -207,7 +207,7 @@ impl Record {
     /// the record holds. Only used positions count, and each call looks at all of them.
     ///
     /// ```
-    /// // An answer with three Transfer-Policies (10415, 4207): the second, and a fourth.
+    /// // The octets of an answer with three Transfer-Policies (10415, 4207): the second, and a fourth.
     /// let record = talazumir::read(&commands::THREE_POLICIES)?;
     /// let second = record.search(10415, 4207, 1);
     /// assert_eq!((second.position, second.number), (Some(15), 3));
@@ -227,6 +227,7 @@ impl Record {
     /// `search` finds the nth alone.
     ///
     /// ```
+    /// // The same answer.
     /// let record = talazumir::read(&commands::THREE_POLICIES)?;
     /// let policies = record.all(10415, 4207);
     /// assert_eq!(policies.len(), 3);

@@ -18,7 +18,12 @@ impl Searched for Proved {
         Sought { position, number }
     }
 
+    /// Where a search below the number finds none, a list that no search has: the iterator would panic.
     fn all(&self, vendor: u32, code: u32) -> Vec<usize> {
+        let number = self.0.search(vendor, code, 0).number;
+        if (0..number).any(|ordinal| self.0.search(vendor, code, ordinal).position.is_none()) {
+            return vec![usize::MAX];
+        }
         self.0.all(vendor, code).collect()
     }
 }

@@ -1,6 +1,6 @@
 -- What a search finds: request [9]'s AVP of an ordinal among those at depth 1 with a vendor and code, none exactly when
 -- the ordinal is not below their number, 01's first one, and the first member of a group.
-use mathlib.Core.Path.{_≡_, sym, ap, _∙_}
+use mathlib.Core.Path.{_≡_, refl, sym, ap, _∙_}
 use mathlib.Core.Bool.{true, false}
 use mathlib.Core.Logic.{_↔_}
 use mathlib.Core.List.{List}
@@ -11,14 +11,15 @@ use lib.Dec.{eqb}
 use lib.ListN.{length, take, drop, length-drop}
 use lib.Seq.{take-length, getD-drop}
 use Rattle.rules.specs.declared.Avp.{Avp}
+use Rattle.rules.specs.declared.Found.{Found}
 use Rattle.rules.specs.declared.Found.the-variants.{At, Nothing}
 use Rattle.rules.specs.Search.{blank, avpIn, isAt, firstFrom, positions, search, first, member}
-use Rattle.rules.specs.Search.{howMany, IsNth, Stands, NthAvp, FirstAvp, FirstMember, NoAvp}
+use Rattle.rules.specs.Search.{howMany, Stands, NthAvp, FirstAvp, FirstMember, NoAvp}
 use Rattle.rules.specs.Avp.{named}
 use Rattle.rules.proofs.Tests.{and-true}
 use Rattle.rules.proofs.Walk.{by-cases}
 use Rattle.rules.proofs.Searches.{nth-none, positions-number}
-use Rattle.rules.proofs.demands.Nth.{none-before, before-none, nth-is-found, found-is-nth, nth-is}
+use Rattle.rules.proofs.demands.Nth.{IsNth, not-nothing, none-before, before-none, nth-is-found, found-is-nth, nth-is}
 use Rattle.rules.proofs.demands.items.Lists.{not-both}
 
 -- ---- what an AVP's test tells
@@ -184,7 +185,7 @@ module _ (xs : List Avp) (k vendor code i : ℕ) where
       }
 
   -- the search among the members of a group: the exchange rules go by it.
-  -- Carried by nth-is.
+  -- Carried by found-is-nth and nth-is-found (Nth).
   -- Ruled out: one that takes a member of an inner group; one that goes on behind the group's end.
   pub member-first : (member xs k inner vendor code ≡ At i) ↔ FirstMember xs k vendor code i
   member-first =
@@ -197,3 +198,19 @@ module _ (xs : List Avp) (k vendor code i : ℕ) where
             let q : k + 1 + (i - (k + 1)) ≡ i = omega (arith, f .behind) in
             nth-is-found inner inner vendor code among (k + 1) 0 (i - (k + 1)) (first-there f) ∙ ap At q,
       )
+
+-- no member was found
+module _ (xs : List Avp) (k vendor code : ℕ) (none : (i : ℕ) → FirstMember xs k vendor code i → ⊥) where
+  not-found : (f : Found) → member xs k (avpIn xs k .depth + 1) vendor code ≡ f → f ≡ Nothing
+  not-found (At i) e = absurd (none i (member-first xs k vendor code i .0 e))
+  not-found Nothing e = refl
+
+-- the same search finds none exactly when there is no such member.
+-- Carried by member-first.
+-- Ruled out: a search that misses the last member.
+pub member-none : (xs : List Avp) (k vendor code : ℕ)
+    → (member xs k (avpIn xs k .depth + 1) vendor code ≡ Nothing) ↔ ((i : ℕ) → FirstMember xs k vendor code i → ⊥)
+member-none xs k vendor code = (
+  λ e i f. not-nothing (sym e ∙ member-first xs k vendor code i .1 f),
+  λ none. not-found xs k vendor code none (member xs k (avpIn xs k .depth + 1) vendor code) refl,
+)

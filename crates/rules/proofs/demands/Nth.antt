@@ -14,9 +14,21 @@ use lib.ListN.{length, take}
 use Rattle.rules.specs.declared.Avp.{Avp}
 use Rattle.rules.specs.declared.Found.{Found}
 use Rattle.rules.specs.declared.Found.the-variants.{At, Nothing}
-use Rattle.rules.specs.Search.{avpIn, isAt, positionsFrom, nth, positionOf, Inside, howMany, IsNth}
+use Rattle.rules.specs.Search.{avpIn, isAt, positionsFrom, nth, positionOf, howMany}
 use Rattle.rules.proofs.Walk.{by-cases}
 use Rattle.rules.proofs.Searches.{positions-above, positions-here, positions-later, positions-none}
+
+-- no AVP up to a position stands above the depth `floor`
+abbrev pub Inside : ℕ → List Avp → ℕ → Type 0
+Inside floor xs k = (j : ℕ) → j ≤ k → floor ≤ avpIn xs j .depth
+
+-- the AVP at a position stands at a depth with a vendor and code, with as many such AVPs before it as the ordinal says,
+-- and before any AVP above the depth `floor`
+pub record IsNth (floor depth : ℕ) (xs : List Avp) (vendor code ordinal k : ℕ) : Type 0 where
+  pub within : k < length xs
+  pub here : isAt (avpIn xs k) depth vendor code ≡ true
+  pub before : howMany depth vendor code (take k xs) ≡ ordinal
+  pub inside : Inside floor xs k
 
 -- ---- how many there are among the first AVPs
 
@@ -60,7 +72,7 @@ module _ (depth vendor code : ℕ) where
 -- ---- one law over the positions
 
 -- a position is no `Nothing`
-not-nothing : {C : Type 0} {i : ℕ} → Nothing ≡ At i → C
+pub not-nothing : {C : Type 0} {i : ℕ} → Nothing ≡ At i → C
 not-nothing e = let z : _≡_ {A = ℕ} 0 1 = cc in absurd (omega arith)
 
 module _ (floor depth vendor code : ℕ) where

@@ -14,7 +14,7 @@ use Rattle.rules.specs.Header.{headerOutcome}
 use Rattle.rules.specs.Avp.{placeOf}
 use Rattle.rules.specs.Walk.{whole}
 use Rattle.rules.specs.RowChecks.{memberFault}
-use Rattle.rules.specs.Search.{avpIn, first as searched, FirstAvp, Stands}
+use Rattle.rules.specs.Search.{avpIn, first, FirstAvp, Stands}
 use Rattle.rules.specs.Exchange.{require, firstFound, direction, volume, notBeside, totalAlone, firstRequest, laterRequest, byRequestType, requestOutcome}
 use Rattle.rules.specs.Command.{walkOf, commandVerdict}
 use Rattle.rules.specs.Order.{ownRows, groupRows, exchange}
@@ -32,33 +32,33 @@ named-fault number a n =
 module _ (xs : List Avp) where
   -- ---- what is there is found
 
-  found : {vendor code : ℕ} (h : Has xs vendor code) → searched xs vendor code ≡ At (h .0)
+  found : {vendor code : ℕ} (h : Has xs vendor code) → first xs vendor code ≡ At (h .0)
   found h = search-first xs _ _ (h .0) .1 (h .1)
 
-  required : {vendor code : ℕ} (end : ℕ) → Has xs vendor code → require (searched xs) end vendor code ≡ Pass
+  required : {vendor code : ℕ} (end : ℕ) → Has xs vendor code → require (first xs) end vendor code ≡ Pass
   required end h = rw (found h)
 
   either-found : (f : Found) (i : ℕ) → (j : ℕ) × (firstFound f (At i) ≡ At j)
   either-found (At j) i = (j, refl)
   either-found Nothing i = (i, refl)
 
-  directed : HasDirection xs → (j : ℕ) × (direction (searched xs) ≡ At j)
+  directed : HasDirection xs → (j : ℕ) × (direction (first xs) ≡ At j)
   unfolding direction
-  directed = ⊎-elim (λ h. (h .0, rw (found h))) (λ h. rw (found h) (either-found (searched xs 0 412) (h .0)))
+  directed = ⊎-elim (λ h. (h .0, rw (found h))) (λ h. rw (found h) (either-found (first xs 0 412) (h .0)))
 
-  volumed : (end : ℕ) → (Has xs 0 421) ⊎ (HasDirection xs) → volume (searched xs) end ≡ Pass
+  volumed : (end : ℕ) → (Has xs 0 421) ⊎ (HasDirection xs) → volume (first xs) end ≡ Pass
   unfolding volume
   volumed end =
       ⊎-elim
       (λ h. rw (found h))
       (λ h.
       let d = directed h in
-      let e = either-found (searched xs 0 421) (d .0) in
+      let e = either-found (first xs 0 421) (d .0) in
       rw (d .1, e .1))
 
   -- ---- the rule
 
-  beside : (i : ℕ) → FirstAvp xs 0 421 i → HasDirection xs → totalAlone (searched xs) xs ≡ memberFault 5008 (avpIn xs i)
+  beside : (i : ℕ) → FirstAvp xs 0 421 i → HasDirection xs → totalAlone (first xs) xs ≡ memberFault 5008 (avpIn xs i)
   unfolding totalAlone
   beside i t h = rw (found (i, t), directed h .1)
 
@@ -66,22 +66,22 @@ module _ (xs : List Avp) where
   none-beside (At i) = refl
   none-beside Nothing = refl
 
-  alone : StandsAlone xs → totalAlone (searched xs) xs ≡ Pass
+  alone : StandsAlone xs → totalAlone (first xs) xs ≡ Pass
   unfolding totalAlone direction
   alone =
       ⊎-elim
       (λ n. rw (search-absent xs 0 421 .1 n))
-      (λ n. rw (search-absent xs 0 412 .1 (n .0), search-absent xs 0 414 .1 (n .1)) (none-beside (searched xs 0 421)))
+      (λ n. rw (search-absent xs 0 412 .1 (n .0), search-absent xs 0 414 .1 (n .1)) (none-beside (first xs 0 421)))
 
   -- ---- in its place
 
   module _ (c : List ℕ) where
-    by-type : (value : ℕ) → RequestOfType c xs value → exchange c xs ≡ byRequestType (searched xs) xs (length c) value
+    by-type : (value : ℕ) → RequestOfType c xs value → exchange c xs ≡ byRequestType (first xs) xs (length c) value
     unfolding requestOutcome
     by-type value r = rw (r .request, found (r .position, r .typed), r .valued)
 
     module _ (i : ℕ) (b : TotalBeside c xs i) where
-      first-refused : firstRequest (searched xs) xs (length c) ≡ memberFault 5008 (avpIn xs i)
+      first-refused : firstRequest (first xs) xs (length c) ≡ memberFault 5008 (avpIn xs i)
       unfolding firstRequest
       first-refused =
           let end = length c in

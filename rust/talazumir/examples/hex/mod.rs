@@ -1,5 +1,10 @@
 //! Octets in hex, for the examples.
 
+/// The words of the command line. One that is no text becomes a word that is no hex.
+pub fn words() -> Vec<String> {
+    std::env::args_os().skip(1).map(|word| word.to_string_lossy().into_owned()).collect()
+}
+
 /// The octets that the words stand for, two digits for each.
 pub fn octets_of(words: &[String]) -> Option<Vec<u8>> {
     let digits: Vec<u32> = words

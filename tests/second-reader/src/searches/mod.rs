@@ -29,8 +29,8 @@ pub type Search<'a> = dyn FnMut(&Draft) -> Box<dyn Searched> + 'a;
 const NAMES: [(u32, u32); 9] =
     [(0, 263), (0, 268), (0, 266), (0, 4203), (10415, 4203), (10415, 4205), (10415, 4207), (9, 9), (0, 0)];
 
-/// Ordinals that are 0 if cut to fewer bits, for made-up records.
-const FAR: [usize; 3] = [1 << 8, 1 << 16, 1 << 32];
+/// Ordinals that are 0 or none if cut to fewer bits, for made-up records.
+const FAR: [usize; 7] = [1 << 8, 1 << 16, 1 << 32, 1 << 33, 1 << 48, 1 << 63, u32::MAX as usize];
 
 /// Tries a search on this many sound commands and made-up records; the first difference is the
 /// error, with the record made small.

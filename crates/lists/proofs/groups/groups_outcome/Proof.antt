@@ -18,13 +18,13 @@ use Rattle.exchange.specs.Firsts.{findIn}
 use Rattle.lists.specs.ByLog.{familyEnd, groupAt}
 use Rattle.lists.specs.Firsts.{noFirsts, firstsFrom}
 use Rattle.lists.specs.Exchanges.{firstsAt, asPolicy, asWindow, policyLogged, windowLogged}
-use Rattle.lists.proofs.Members.{Counted, counted-none, counted-next, counted-other, counted-all, Reached, reached-none, reached-next, reached-pass, reached-all, reached-fault, no-rows, not-policy, no-policy, no-window}
+use Rattle.lists.proofs.Members.{PoliciesBefore, policies-none, policies-next, policies-other, policies-all, Reached, reached-none, reached-next, reached-pass, reached-all, reached-fault, no-rows, not-policy, no-policy, no-window}
 use Rattle.lists.proofs.groups.groups_outcome.Statement.{statement}
 use Rattle.lists.proofs.groups.groups_outcome.Tie as tie
 
 abbrev Inv-loop : tie.InvT-loop
 Inv-loop s log count admissions rows number₀ policies₀ windows₀ i₀ number policies windows i =
-    Counted (loggedOf log) count number i
+    PoliciesBefore (loggedOf log) count number i
     × Reached (groupAt (loggedOf log) count) count Pass i
     × Reached (policyLogged (loggedOf log) count) count policies i
     × Reached (windowLogged (loggedOf log) (avpsIn log count) s count) count windows i
@@ -33,7 +33,7 @@ abbrev μ-loop : tie.MeasureT-loop
 μ-loop s log count admissions rows number₀ policies₀ windows₀ i₀ number policies windows i = count - i
 
 loop-holds : tie.Need-loop-holds Inv-loop μ-loop
-loop-holds c = (counted-none _ _, reached-none _ _, reached-none _ _, reached-none _ _)
+loop-holds c = (policies-none _ _, reached-none _ _, reached-none _ _, reached-none _ _)
 
 add-i : tie.Need-add-i Inv-loop μ-loop
 add-i c = omega arith
@@ -69,7 +69,7 @@ loop-again c =
     let s = t .before .before .before .args in
     let at = loggedOf (s .log .now) in
     let none = sym (members m) ∙ c .enum-told .given .1 in (
-      counted-other _ _ _ _ (l .inv .0) (t .loop-test .taken) (not-policy at (s .count) (l .i) none),
+      policies-other _ _ _ _ (l .inv .0) (t .loop-test .taken) (not-policy at (s .count) (l .i) none),
       reached-pass _ _ Pass _ (l .inv .1) (t .loop-test .taken) (no-rows at (s .count) (l .i) none),
       reached-pass _ _ (l .policies) _ (l .inv .2) (t .loop-test .taken) (no-policy at (s .count) (l .i) none),
       reached-pass _ _ (l .windows) _ (l .inv .3) (t .loop-test .taken) (no-window at (s .count) (l .i) none _ _),
@@ -167,7 +167,7 @@ loop-again-2 c =
     let window : c .with-window .result ≡ orElse (l .windows) (windowLogged at (avpsIn (s .log .now) (s .count)) (s .s .now) (s .count) (l .i)) =
     c .with-window .ensures
     ∙ ap (λ (firsts : List ℕ). orElse (l .windows) (asWindow (findIn firsts (s .count)) (avpsIn (s .log .now) (s .count)) (s .s .now) (at (l .i)))) is in (
-      rw (n .with-number .ensures) (counted-next _ _ (l .number) (l .i) (l .inv .0) (t .loop-test .taken)),
+      rw (n .with-number .ensures) (policies-next _ _ (l .number) (l .i) (l .inv .0) (t .loop-test .taken)),
       rw passed at (reached-next _ _ Pass _ (l .i) (l .inv .1) (t .loop-test .taken) (rows o)),
       rw policy (reached-next _ _ (l .policies) _ (l .i) (l .inv .2) (t .loop-test .taken) refl),
       rw window (reached-next _ _ (l .windows) _ (l .i) (l .inv .3) (t .loop-test .taken) refl),
@@ -179,7 +179,7 @@ returns-2 c =
     let past = c .loop-test .left in
     record {
       rows = reached-all _ _ Pass _ (l .inv .1) past;
-      number = λ _. counted-all _ _ (l .number) _ (l .inv .0) past;
+      number = λ _. policies-all _ _ (l .number) _ (l .inv .0) past;
       policies = λ _. reached-all _ _ (l .policies) _ (l .inv .2) past;
       windows = λ _. reached-all _ _ (l .windows) _ (l .inv .3) past;
     }

@@ -141,18 +141,14 @@ module _ (t : Verdict → Bool) (r : AvpRefusals t) where
   unfolding resultOutcome
   result-meets find xs end = search result-by
 
-  -- an outcome that some numbers, or some positions, have
+  -- an outcome under a test
   where-meets : (b : Bool) (o : Outcome) → meets t o ≡ true → meets t (cond b o Pass) ≡ true
   unfolding meets
   where-meets b o h = simp (either t, both, h)
 
-  unless-meets : (b : Bool) (o : Outcome) → meets t o ≡ true → meets t (cond b Pass o) ≡ true
-  unfolding meets
-  unless-meets b o h = simp (either t, both, h)
-
   policies-meets : (find : ℕ → ℕ → Found) (end number : ℕ) → meets t (policiesOutcome find end number) ≡ true
   unfolding policiesOutcome
-  policies-meets find end number = search (in-turn, unless-meets, present-meets)
+  policies-meets find end number = search (in-turn, where-meets, present-meets)
 
   policy-meets : (xs : List Avp) (i : ℕ) → meets t (policyOutcome xs i) ≡ true
   unfolding policyIn

@@ -58,10 +58,6 @@ both true = refl
 both false = refl
 
 module _ (t : Verdict → Bool) where
-  pub pass-meets : meets t Pass ≡ true
-  unfolding meets
-  pass-meets = refl
-
   pub either : (b : Bool) (o p : Outcome) → meets t (cond b o p) ≡ cond b (meets t o) (meets t p)
   either true o p = refl
   either false o p = refl
