@@ -144,7 +144,8 @@ module _ (ys : List Avp) (few : length ys ≤ mostAvps) (at : ℕ → Logged) wh
 
     -- as a policy it stands at depth 1, and its members at 2
     policy-by : (own : Bool) (end : ℕ) → isAt a 1 10415 4207 ≡ own
-        → cond own (policyIn (findIn (firstsAt at (length ys) i) (length ys)) end) Pass ≡ cond own (policyIn (member ys i 2) end) Pass
+        → cond own (policyIn (findIn (firstsAt at (length ys) i) (length ys)) end) Pass
+        ≡ cond own (policyIn (member ys i 2) end) Pass
     policy-by true end e =
         let d : a .depth ≡ 1 = eqb-true (a .depth) 1 (and-true (eqb (a .depth) 1) (named a 10415 4207) e .0) in
         policy-same _ (member ys i 2) (rw d at group-finds) end
@@ -153,7 +154,8 @@ module _ (ys : List Avp) (few : length ys ≤ mostAvps) (at : ℕ → Logged) wh
     policy-at : policyLogged at (length ys) i ≡ policyAt ys i a
     unfolding policyLogged
     policy-at =
-        rw (is-policy at a i _ (here .stands .first), is-logged, here .here) (policy-by (isAt a 1 10415 4207) (endOf a) refl)
+        rw (is-policy at a i _ (here .stands .first), is-logged, here .here)
+        (policy-by (isAt a 1 10415 4207) (endOf a) refl)
 
     window-at : (s : List ℕ) → windowLogged at ys s (length ys) i ≡ windowAt ys s i a
     unfolding windowLogged dictionary numberWhere

@@ -1,6 +1,6 @@
 -- The exchange rules by the numbers that a log holds: the members of the command's own list and of each group are
--- searched by their first positions, and the policies are counted. Of the log of a walk they say what document 01 says of its AVPs
--- (proofs/Exchanges).
+-- searched by their first positions, and the policies are counted. Of the log of a walk they say what document 01 says
+-- of its AVPs (proofs/Exchanges).
 use mathlib.Core.Path.{_≡_}
 use Prim.Native.Nat.{ℕ, zero, suc, _+_, _-_, min}
 use mathlib.Core.List.{List}

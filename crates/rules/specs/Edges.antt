@@ -232,7 +232,8 @@ policied =
     ∷ case (answerOf 316 (reference ++ policy ++ proxyOf 116 policy)) 0 0 0 0
     ∷ case (answerOf 160 (proxyOf 60 (policyOf 28 []))) 0 0 0 0
     -- of the second and the third at fault the second counts; the third alone; 4204 before 432; 4204 in a group
-    ∷ case (answerOf 328 (reference ++ address ++ policy ++ policyOf 72 (windowOf 10 11) ++ policyOf 40 rating)) 5005 288 0 432
+    ∷ case (answerOf 328 (reference ++ address ++ policy ++ policyOf 72 (windowOf 10 11) ++ policyOf 40 rating))
+    5005 288 0 432
     ∷ case (answerOf 372 (reference ++ address ++ policy ++ policy ++ policyOf 72 (windowOf 10 11))) 5005 372 0 432
     ∷ case (answerOf 144 (policyOf 28 [] ++ reference)) 5005 128 vendor3GPP 4204
     ∷ case (answerOf 232 (reference ++ policyOf 116 (rating ++ proxyOf 76 (windowOf 10 11)))) 5005 232 vendor3GPP 4204

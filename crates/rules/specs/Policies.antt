@@ -1,5 +1,5 @@
--- What request [9] claims of the transfer policies of an answer (proofs/demands/Policies): which answers are refused for
--- them, by the number of 4207 in the command's own list. xs are the AVPs of the command's walk.
+-- What request [9] claims of the transfer policies of an answer (proofs/demands/Policies): which answers are refused
+-- for them, by the number of 4207 in the command's own list. xs are the AVPs of the command's walk.
 use mathlib.Core.Path.{_≡_}
 use mathlib.Core.Bool.{false}
 use mathlib.Core.List.{List}

@@ -29,8 +29,8 @@ abbrev pub withPosition : Bool → ℕ → List ℕ → List ℕ
 withPosition true i is = i ∷ is
 withPosition false i is = is
 
--- the positions, counted from i, of the AVPs at a depth with a vendor and code, in order, before any AVP above the depth
--- `floor`
+-- the positions, counted from i, of the AVPs at a depth with a vendor and code, in order, before any AVP above the
+-- depth `floor`
 unfoldable pub positionsFrom : ℕ → ℕ → ℕ → List Avp → ℕ → ℕ → List ℕ
 positionsFrom i floor depth [] vendor code = []
 positionsFrom i floor depth (a ∷ xs) vendor code =
@@ -82,8 +82,8 @@ pub record Stands (a : Avp) (depth vendor code : ℕ) : Type 0 where
   pub vendor-is : a .vendor ≡ vendor
   pub code-is : a .code ≡ code
 
--- request [9]: the AVP at a position stands at depth 1 with a vendor and code, and has exactly as many of them before it
--- at depth 1 as the ordinal says
+-- request [9]: the AVP at a position stands at depth 1 with a vendor and code, and has exactly as many of them before
+-- it at depth 1 as the ordinal says
 pub record NthAvp (xs : List Avp) (vendor code ordinal i : ℕ) : Type 0 where
   pub within : i < length xs
   pub here : Stands (avpIn xs i) 1 vendor code

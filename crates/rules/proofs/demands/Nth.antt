@@ -61,8 +61,8 @@ module _ (depth vendor code : ℕ) where
       (λ t. absurd (omega (arith, sym (many-here a (take k xs) t) ∙ e)))
       (λ t. none-before xs k (sym (many-other a (take k xs) t) ∙ e) j (omega arith) (omega arith))
 
-  pub before-none : (xs : List Avp) (k : ℕ) → ((j : ℕ) → j < k → j < length xs → isAt (avpIn xs j) depth vendor code ≡ false)
-      → howMany depth vendor code (take k xs) ≡ 0
+  pub before-none : (xs : List Avp) (k : ℕ)
+      → ((j : ℕ) → j < k → j < length xs → isAt (avpIn xs j) depth vendor code ≡ false) → howMany depth vendor code (take k xs) ≡ 0
   before-none xs zero f = many-none
   before-none [] (suc k) f = many-none
   before-none (a ∷ xs) (suc k) f =
@@ -75,6 +75,10 @@ module _ (depth vendor code : ℕ) where
 pub not-nothing : {C : Type 0} {i : ℕ} → Nothing ≡ At i → C
 not-nothing e = let z : _≡_ {A = ℕ} 0 1 = cc in absurd (omega arith)
 
+-- two lists that are the same have the same at an ordinal
+as-in : (is js : List ℕ) (n j : ℕ) → is ≡ js → nth is n ≡ At j → nth js n ≡ At j
+as-in is js n j p e = rw p at e
+
 module _ (floor depth vendor code : ℕ) where
   abbrev Nth : List Avp → ℕ → ℕ → Type 0
   Nth xs n k = IsNth floor depth xs vendor code n k
@@ -83,7 +87,8 @@ module _ (floor depth vendor code : ℕ) where
   at i xs n = nth (positionsFrom i floor depth xs vendor code) n
 
   -- behind the first AVP, counted among the others
-  others : (a : Avp) (xs : List Avp) (n k : ℕ) → Nth (a ∷ xs) n (suc k) → Nth xs (howMany depth vendor code (take k xs)) k
+  others : (a : Avp) (xs : List Avp) (n k : ℕ) → Nth (a ∷ xs) n (suc k)
+      → Nth xs (howMany depth vendor code (take k xs)) k
   others a xs n k f =
       let long = f .within in
       record {
@@ -120,8 +125,8 @@ module _ (floor depth vendor code : ℕ) where
   -- with an AVP of the list before those that are searched
   module _ (a : Avp) (xs : List Avp) (i j : ℕ) (in-list : floor ≤ a .depth)
       (later : (m : ℕ) → at (i + 1) xs m ≡ At j → IsFound xs (i + 1) m j) where
-    on : (n m : ℕ) → ((k : ℕ) → howMany depth vendor code (take k xs) ≡ m → howMany depth vendor code (take (suc k) (a ∷ xs)) ≡ n)
-        → at (i + 1) xs m ≡ At j → IsFound (a ∷ xs) i n j
+    on : (n m : ℕ) → ((k : ℕ) → howMany depth vendor code (take k xs) ≡ m
+        → howMany depth vendor code (take (suc k) (a ∷ xs)) ≡ n) → at (i + 1) xs m ≡ At j → IsFound (a ∷ xs) i n j
     on n m more e =
         let f = later m e in
         let p = f .place in
@@ -144,8 +149,8 @@ module _ (floor depth vendor code : ℕ) where
 
     own : (n : ℕ) → isAt a depth vendor code ≡ true → at i (a ∷ xs) n ≡ At j → IsFound (a ∷ xs) i n j
     own zero t e =
-        let q : At i ≡ At j = sym (ap (λ (is : List ℕ). nth is 0) (positions-here i floor depth a xs vendor code in-list t)) ∙ e in
-        let p : i ≡ j = ap positionOf q in
+        let here = as-in _ _ 0 j (positions-here i floor depth a xs vendor code in-list t) e in
+        let p : i ≡ j = ap positionOf here in
         record {
           k = 0;
           place = omega arith;
@@ -157,24 +162,24 @@ module _ (floor depth vendor code : ℕ) where
         only (suc k) h = absurd (omega arith)
     own (suc n) t e =
         on (suc n) n (λ k m. many-here depth vendor code a (take k xs) t ∙ ap suc m)
-        (sym (ap (λ (is : List ℕ). nth is (suc n)) (positions-here i floor depth a xs vendor code in-list t)) ∙ e)
+        (as-in _ _ (suc n) j (positions-here i floor depth a xs vendor code in-list t) e)
 
     other : (n : ℕ) → isAt a depth vendor code ≡ false → at i (a ∷ xs) n ≡ At j → IsFound (a ∷ xs) i n j
     other n t e =
         on n n (λ k m. many-other depth vendor code a (take k xs) t ∙ m)
-        (sym (ap (λ (is : List ℕ). nth is n) (positions-later i floor depth a xs vendor code in-list t)) ∙ e)
+        (as-in _ _ n j (positions-later i floor depth a xs vendor code in-list t) e)
 
   pub found-is-nth : (xs : List Avp) (i n j : ℕ) → at i xs n ≡ At j → IsFound xs i n j
-  found-is-nth [] i n j e = not-nothing (sym (ap (λ (is : List ℕ). nth is n) (positions-none i floor depth vendor code)) ∙ e)
+  found-is-nth [] i n j e = not-nothing (as-in _ _ n j (positions-none i floor depth vendor code) e)
   found-is-nth (a ∷ xs) i n j e =
       let later : (m : ℕ) → at (i + 1) xs m ≡ At j → IsFound xs (i + 1) m j = λ m. found-is-nth xs (i + 1) m j in
       by-cases (ltb (a .depth) floor)
-      (λ h. not-nothing (sym (ap (λ (is : List ℕ). nth is n) (positions-above i floor depth a xs vendor code (ltb-true _ _ h))) ∙ e))
+      (λ h. not-nothing (as-in _ _ n j (positions-above i floor depth a xs vendor code (ltb-true _ _ h)) e))
       (λ h. by-cases (isAt a depth vendor code)
       (λ t. own a xs i j (ltb-false _ _ h) later n t e)
       (λ t. other a xs i j (ltb-false _ _ h) later n t e))
 
-  -- counted from i, an ordinal says a position exactly when the AVP of that ordinal is there
+  -- counted from i, a position is given for an ordinal exactly when the AVP of that ordinal is there
   pub nth-is : (xs : List Avp) (i n k : ℕ) → (at i xs n ≡ At (i + k)) ↔ Nth xs n k
   nth-is xs i n k = (
     λ e.

@@ -1,5 +1,5 @@
--- Request [9] of a record: what the search finds among its used positions, and how many there are. It is the search over
--- lists (Found) among the AVPs that are used.
+-- Request [9] of a record: what the search finds among its used positions, and how many there are. It is the search
+-- over lists (Found) among the AVPs that are used.
 use mathlib.Core.Path.{_≡_, sym, ap, _∙_}
 use mathlib.Core.Logic.{_↔_}
 use Prim.Native.Nat.{ℕ, _≤_, _<_}
@@ -24,8 +24,8 @@ module _ (r : Record) (full : length (r .avps) ≡ mostAvps) (vendor code ordina
     before : howMany 1 vendor code (take i (recorded r)) ≡ howMany 1 vendor code (take i (r .avps))
     before = ap (howMany 1 vendor code) (take-take i (used r) (r .avps) (omega arith))
 
-  -- 02 [9]: "the one found has exactly as many of them before it at depth 1 as the ordinal says"; 01: "a count above 256
-  -- as 256".
+  -- 02 [9]: "the one found has exactly as many of them before it at depth 1 as the ordinal says"; 01: "a count above
+  -- 256 as 256".
   -- Carried by search-nth (Found).
   -- Ruled out: a search that passes over the ordinal; one that finds an AVP behind the count.
   pub record-nth : (i : ℕ) → (searchRecord r vendor code ordinal .found ≡ At i) ↔ NthRecorded r vendor code ordinal i
