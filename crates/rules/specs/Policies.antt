@@ -35,3 +35,8 @@ pub record Unaddressed (c : List ℕ) (xs : List Avp) : Type 0 where
   pub offers : Offers c xs 2
   pub reference : Has xs vendor3GPP 4202
   pub address : NoAvp xs vendor3GPP 2207
+
+-- what the number of policies asks for is there
+pub record Equipped (xs : List Avp) : Type 0 where
+  pub reference : 1 ≤ howMany 1 vendor3GPP 4207 xs → Has xs vendor3GPP 4202
+  pub address : 2 ≤ howMany 1 vendor3GPP 4207 xs → Has xs vendor3GPP 2207

@@ -81,7 +81,8 @@ searchRecord r vendor code ordinal = search (recorded r) vendor code ordinal
 
 -- ---- what is claimed of it (proofs/demands/Recorded)
 
--- how many positions are used; a count above 256 is read as 256
+-- how many positions are used; a count above 256 is read as 256. Said apart from `recorded`, so that a wrong reading of
+-- the count there is refused
 abbrev pub used : Record → ℕ
 used r = min (r .count) mostAvps
 

@@ -1,17 +1,24 @@
--- Request [9]: the exchange rules go by the number of policies. Which answers are refused for 4202 and for 2207. The
--- claims stand in rules/specs/Policies.
+-- Request [9]: the exchange rules go by the number of policies. Which answers are refused for 4202 and for 2207, and
+-- that no other is. The claims stand in rules/specs/Policies.
 use mathlib.Core.Path.{_≡_}
+use mathlib.Core.Bool.{false, cond}
 use mathlib.Core.List.{List}
 use Prim.Native.Nat.{ℕ, _≤_}
 use native.Mathlib.Omega.{arith}
-use borrow.Author.Tests.{le-leb}
+use borrow.Author.Tests.{le-leb, lt-leb, ltb-true, ltb-false}
+use lib.Dec.{ltb, leb}
 use lib.ListN.{length}
 use Rattle.rules.specs.declared.Avp.{Avp}
+use Rattle.rules.specs.declared.Outcome.the-variants.{Pass}
 use Rattle.rules.specs.Verdict.{refused, verdict}
-use Rattle.rules.specs.Exchange.{policyNumber, policiesOutcome, answerOutcome}
+use Rattle.rules.specs.Header.{commandFlags, isRequest}
+use Rattle.rules.specs.Search.{first, howMany}
+use Rattle.rules.specs.Exchange.{require, resultOutcome, policyNumber, policiesOutcome, eachPolicy, answerOutcome}
 use Rattle.rules.specs.Command.{commandVerdict}
 use Rattle.rules.specs.Order.{exchange}
-use Rattle.rules.specs.Policies.{Offers, Unreferenced, Unaddressed}
+use Rattle.rules.specs.Policies.{Offers, Unreferenced, Unaddressed, Equipped}
+use Rattle.rules.specs.Volumes.{Has}
+use Rattle.rules.proofs.Walk.{by-cases}
 use Rattle.rules.proofs.demands.Found.{search-number, search-first, search-absent}
 use Rattle.rules.proofs.demands.Order.{demand-2-first-fault}
 
@@ -60,3 +67,36 @@ module _ (c : List ℕ) (xs : List Avp) where
   request-9-address u =
       let o = u .offers in
       demand-2-first-fault c .lists xs (o .header) (o .walk) .rules _ (o .own) (o .groups) (unaddressed u)
+
+  -- what is there passes, whatever the number
+  module _ (q : Equipped xs) (end : ℕ) where
+    has : {vendor code : ℕ} → Has xs vendor code → require (first xs) end vendor code ≡ Pass
+    has h = rw (search-first xs _ _ (h .0) .1 (h .1))
+
+    number : policyNumber xs ≡ howMany 1 10415 4207 xs
+    number = search-number xs 10415 4207 0
+
+    referenced : cond (leb 1 (policyNumber xs)) (require (first xs) end 10415 4202) Pass ≡ Pass
+    referenced =
+        by-cases (ltb (policyNumber xs) 1)
+        (λ h. rw (lt-leb 1 (policyNumber xs) (ltb-true _ _ h)))
+        (λ h.
+        let some = ltb-false _ _ h in
+        rw (le-leb 1 (policyNumber xs) some) (has (q .reference (omega (arith, some, number)))))
+
+    addressed : cond (leb 2 (policyNumber xs)) (require (first xs) end 10415 2207) Pass ≡ Pass
+    addressed =
+        by-cases (ltb (policyNumber xs) 2)
+        (λ h. rw (lt-leb 2 (policyNumber xs) (ltb-true _ _ h)))
+        (λ h.
+        let more = ltb-false _ _ h in
+        rw (le-leb 2 (policyNumber xs) more) (has (q .address (omega (arith, more, number)))))
+
+  -- 01: nothing else is asked for by the number of policies; what is left is what each of them holds.
+  -- Carried by search-number and search-first (Found).
+  -- Ruled out: a reader that asks for 2207 with one policy, or for 4202 with none.
+  pub request-9-asked : isRequest (commandFlags c) ≡ false → resultOutcome (first xs) xs (length c) ≡ Pass
+      → Equipped xs → exchange c xs ≡ eachPolicy xs
+  unfolding answerOutcome policiesOutcome
+  request-9-asked answer result q =
+      rw (answer, result, referenced q (length c), addressed q (length c))
