@@ -9,6 +9,7 @@ ghost use Rattle.rules.specs.Walk.{mostAvps};
 ghost use Rattle.log.specs.Log.{avpsIn};
 ghost use Rattle.exchange.specs.Firsts.{findIn};
 use dictionary::kinds;
+use rules::ExchangeRules;
 use rules::Outcome;
 use rules::limits;
 
@@ -19,7 +20,7 @@ pub mod window;
 
 // The rules of a request or of an answer; `number` is how many policies there are, `policies` what is said of each.
 fn by_command(
-    request: bool,
+    rules: ExchangeRules,
     s: &[u8],
     log: &[u32; limits::LOG_NUMBERS],
     firsts: &[u16; kinds::ENTRIES],
@@ -29,19 +30,21 @@ fn by_command(
     policies: Outcome,
 ) -> Outcome
     requires { ⌜ count ≤ mostAvps ⌝ }
-    ensures { λ r. ⌜ r ≡ byCommand (findIn (now (firsts .entry)) count) request (avpsIn (now (log .entry)) count) (now (s .entry)) end number policies ⌝ }
+    ensures { λ r. ⌜ r ≡ byCommand (findIn (now (firsts .entry)) count) rules (avpsIn (now (log .entry)) count) (now (s .entry)) end number policies ⌝ }
 {
-    if request {
-        return request::request_outcome(s, log, firsts, count, end);
+    match rules {
+        ExchangeRules::OfRequest => request::request_outcome(s, log, firsts, count, end),
+        ExchangeRules::OfAnswer => {
+            answer::answer_outcome(log, firsts, count, end, number, policies)
+        }
     }
-    answer::answer_outcome(log, firsts, count, end, number, policies)
 }
 
 // What the exchange rules say of the command `s`, whose walk is in the log and whose own list ends at `end`, by the
 // first position of each entry in that list; `number` is how many policies there are, `policies` and `windows` what is
 // said of each policy and of each window.
 pub fn judge(
-    request: bool,
+    rules: ExchangeRules,
     s: &[u8],
     log: &[u32; limits::LOG_NUMBERS],
     firsts: &[u16; kinds::ENTRIES],
@@ -51,10 +54,10 @@ pub fn judge(
     policies: Outcome,
     windows: Outcome,
 ) -> Outcome
-    ensures { λ r. ⌜ Answers verdictOf (exchangeBy (findIn (now (firsts .entry)) (min count mostAvps)) request (avpsIn (now (log .entry)) count) (now (s .entry)) end number policies windows) r ⌝ }
+    ensures { λ r. ⌜ Answers verdictOf (exchangeBy (findIn (now (firsts .entry)) (min count mostAvps)) rules (avpsIn (now (log .entry)) count) (now (s .entry)) end number policies windows) r ⌝ }
 {
     let avps = log::used(count);
-    let outcome = by_command(request, s, log, firsts, avps, end, number, policies);
+    let outcome = by_command(rules, s, log, firsts, avps, end, number, policies);
     let Outcome::Pass = outcome else {
         return outcome;
     };

@@ -11,12 +11,14 @@ use borrow.Author.Tests.{eqb-true}
 use lib.Dec.{eqb, ltb→lt}
 use lib.ListN.{length, getD, drop}
 use Rattle.rules.specs.declared.Avp.{Avp}
+use Rattle.rules.specs.declared.CommandRules.{CommandRules}
+use Rattle.rules.specs.declared.ExchangeRules.{ExchangeRules}
+use Rattle.rules.specs.declared.ExchangeRules.the-variants.{OfRequest, OfAnswer}
 use Rattle.rules.specs.declared.Found.{Found}
 use Rattle.rules.specs.declared.Found.the-variants.{At, Nothing}
 use Rattle.rules.specs.declared.Outcome.{Outcome}
 use Rattle.rules.specs.declared.Outcome.the-variants.{Pass}
 use Rattle.rules.specs.Verdict.{orElse}
-use Rattle.rules.specs.Header.{isRequest}
 use Rattle.rules.specs.Avp.{named, endOf}
 use Rattle.rules.specs.Walk.{mostAvps}
 use Rattle.rules.specs.Dictionary.{dictionary}
@@ -26,7 +28,6 @@ use Rattle.rules.specs.Exchange.{direction, volume, totalAlone, firstRequest, l
 use Rattle.rules.specs.Exchange.{resultOutcome, policiesOutcome, answerOutcome, byCommand, exchangeBy}
 use Rattle.rules.specs.Exchange.{policyIn, policyOutcome, policiesAt, eachPolicy, policyNumber, windowIn, windowAt, eachWindow}
 use Rattle.rules.specs.Exchange.{exchangeOutcome}
-use Rattle.rules.specs.Command.{commandGrammar}
 use Rattle.rules.proofs.Tests.{and-true}
 use Rattle.rules.proofs.Searches.{positions-next, positions-none, positions-number}
 use Rattle.dictionary.specs.Entries.{numberWhere, entryOf}
@@ -68,10 +69,10 @@ module _ (f g : ℕ → ℕ → Found) (same : (vendor code : ℕ) → IsKnown v
   unfolding dictionary numberWhere answerOutcome resultOutcome policiesOutcome
   answer-same xs end number policies = rw (same 0 268 tt, same 0 297 tt, same 10415 4202 tt, same 10415 2207 tt)
 
-  exchange-same : (request : Bool) (xs : List Avp) (s : List ℕ) (end number : ℕ) (policies : Outcome)
-      → byCommand f request xs s end number policies ≡ byCommand g request xs s end number policies
-  exchange-same true xs s end number policies = request-same xs s end
-  exchange-same false xs s end number policies = answer-same xs end number policies
+  exchange-same : (rules : ExchangeRules) (xs : List Avp) (s : List ℕ) (end number : ℕ) (policies : Outcome)
+      → byCommand f rules xs s end number policies ≡ byCommand g rules xs s end number policies
+  exchange-same OfRequest xs s end number policies = request-same xs s end
+  exchange-same OfAnswer xs s end number policies = answer-same xs end number policies
 
   policy-same : (end : ℕ) → policyIn f end ≡ policyIn g end
   unfolding dictionary numberWhere policyIn
@@ -199,25 +200,25 @@ module _ (ys : List Avp) (few : length ys ≤ mostAvps) (at : ℕ → Logged) wh
         (λ vendor code. rw (zero-add (length ys)) at (first-among vendor code ys 0 0 1)) _
         (λ vendor code k. first-positions at vendor code mostAvps k ys forest few stands)
 
-    exchange-of : (request : Bool) (s : List ℕ) (end : ℕ)
-        → exchangeBy (findIn (firstsFrom (length ys) at 0 (length ys) noFirsts) (length ys)) request ys s end
+    exchange-of : (rules : ExchangeRules) (s : List ℕ) (end : ℕ)
+        → exchangeBy (findIn (firstsFrom (length ys) at 0 (length ys) noFirsts) (length ys)) rules ys s end
         (policyNumberFrom at (length ys) 0) (firstFault (policyLogged at (length ys)) (length ys) 0)
         (firstFault (windowLogged at ys s (length ys)) (length ys) 0)
-        ≡ exchangeOutcome request ys s end
+        ≡ exchangeOutcome rules ys s end
     unfolding exchangeBy
-    exchange-of request s end =
+    exchange-of rules s end =
         rw (policies-number, policies-of, windows-of s)
         (ap (λ (o : Outcome). orElse o (eachWindow ys s 0 ys))
-        (exchange-same _ (first ys) own-finds request ys s end (policyNumber ys) (eachPolicy ys)))
+        (exchange-same _ (first ys) own-finds rules ys s end (policyNumber ys) (eachPolicy ys)))
 
 -- the rows, then the exchange rules, by what a log has at each position; `other` is what stands where there is none
 pub walked-lists : (xs : List Avp) → IsForest 1 xs → length xs ≤ mostAvps → (at : ℕ → Logged) (other : Logged)
     → ((i : ℕ) → i < length (loggedFrom (entryOf dictionary) 0 xs)
     → at i ≡ getD (loggedFrom (entryOf dictionary) 0 xs) i other)
-    → (flags : ℕ) (s : List ℕ) (end : ℕ)
-    → listsBy at xs flags s end (length xs)
-    ≡ orElse (rowsOutcome dictionary (commandGrammar flags) end xs) (exchangeOutcome (isRequest flags) xs s end)
+    → (rules : CommandRules) (s : List ℕ) (end : ℕ)
+    → listsBy at xs rules s end (length xs)
+    ≡ orElse (rowsOutcome dictionary (rules .rows) end xs) (exchangeOutcome (rules .exchange) xs s end)
 unfolding listsBy
-walked-lists xs f few at other h flags s end =
+walked-lists xs f few at other h rules s end =
     let stands = stands-at (entryOf dictionary) at xs 0 other (λ i l. rw (zero-add i) (h i l)) in
-    rw (walked-rows xs f at other h (commandGrammar flags) end, exchange-of xs few at f stands (isRequest flags) s end)
+    rw (walked-rows xs f at other h (rules .rows) end, exchange-of xs few at f stands (rules .exchange) s end)

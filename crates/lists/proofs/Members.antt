@@ -9,6 +9,7 @@ use native.Mathlib.Nat.{add-zero, sub-zero}
 use borrow.Author.Tests.{lt-ltb, le-ltb, ltb-true, ne-eqb}
 use lib.Dec.{eqb, ltb}
 use Rattle.rules.specs.declared.Avp.{Avp}
+use Rattle.rules.specs.declared.CommandRules.{CommandRules}
 use Rattle.rules.specs.declared.Grammar.{Grammar}
 use Rattle.rules.specs.declared.Grammar.the-variants.{TimeWindow, TransferPolicy}
 use Rattle.rules.specs.declared.Members.the-variants.{Under, NoMembers}
@@ -17,12 +18,11 @@ use Rattle.rules.specs.declared.Outcome.{Outcome}
 use Rattle.rules.specs.declared.Outcome.the-variants.{Pass, Refused}
 use Rattle.rules.specs.declared.Admission.{Admission}
 use Rattle.rules.specs.Verdict.{orElse}
-use Rattle.rules.specs.Header.{vendor3GPP, isRequest}
+use Rattle.rules.specs.Header.{vendor3GPP}
 use Rattle.rules.specs.Rows.{admitsOthers}
 use Rattle.rules.specs.Dictionary.{dictionary, membersOf}
 use Rattle.rules.specs.RowChecks.{counted, byAdmission, missing}
 use Rattle.rules.specs.Exchange.{exchangeBy}
-use Rattle.rules.specs.Command.{commandGrammar}
 use Rattle.rules.proofs.Outcomes.{refused-first, or-pass, or-assoc}
 use Rattle.dictionary.specs.Entries.{numberWhere, entryOf, definitionAt}
 use Rattle.log.specs.Log.{Logged}
@@ -180,20 +180,20 @@ module _ (at : ℕ → Logged) (count i : ℕ) (none : membersOf (definitionAt d
 
 -- ---- the command's list, then the groups, then the exchange rules
 
-module _ (at : ℕ → Logged) (xs : List Avp) (flags : ℕ) (s : List ℕ) (end count : ℕ) (own : Outcome)
-    (is : own ≡ listBy at (commandGrammar flags) end 0 count) where
-  pub own-refused : {v : Verdict} → own ≡ Refused v → own ≡ listsBy at xs flags s end count
+module _ (at : ℕ → Logged) (xs : List Avp) (rules : CommandRules) (s : List ℕ) (end count : ℕ) (own : Outcome)
+    (is : own ≡ listBy at (rules .rows) end 0 count) where
+  pub own-refused : {v : Verdict} → own ≡ Refused v → own ≡ listsBy at xs rules s end count
   unfolding listsBy rowsBy
   own-refused e = rw (sym is ∙ e) e
 
   module _ (passed : own ≡ Pass) (groups : Outcome) (all : groups ≡ firstFault (groupAt at count) count 0) where
-    pub group-refused : {v : Verdict} → groups ≡ Refused v → groups ≡ listsBy at xs flags s end count
+    pub group-refused : {v : Verdict} → groups ≡ Refused v → groups ≡ listsBy at xs rules s end count
     unfolding listsBy rowsBy
     group-refused e = rw (sym is ∙ passed, sym all ∙ e) e
 
     pub rows-passed : groups ≡ Pass
-        → exchangeBy (findIn (firstsFrom count at 0 count noFirsts) count) (isRequest flags) xs s end
+        → exchangeBy (findIn (firstsFrom count at 0 count noFirsts) count) (rules .exchange) xs s end
         (policyNumberFrom at count 0) (firstFault (policyLogged at count) count 0) (firstFault (windowLogged at xs s count) count 0)
-        ≡ listsBy at xs flags s end count
+        ≡ listsBy at xs rules s end count
     unfolding listsBy rowsBy
     rows-passed e = rw (sym is ∙ passed, sym all ∙ e)

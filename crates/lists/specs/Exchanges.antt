@@ -7,16 +7,16 @@ use mathlib.Core.List.{List}
 use mathlib.Core.Bool.{Bool, cond, _&&_}
 use lib.Dec.{eqb}
 use Rattle.rules.specs.declared.Avp.{Avp}
+use Rattle.rules.specs.declared.CommandRules.{CommandRules}
 use Rattle.rules.specs.declared.Found.{Found}
 use Rattle.rules.specs.declared.Outcome.{Outcome}
 use Rattle.rules.specs.declared.Outcome.the-variants.{Pass}
 use Rattle.rules.specs.Verdict.{orElse}
-use Rattle.rules.specs.Header.{vendor3GPP, isRequest}
+use Rattle.rules.specs.Header.{vendor3GPP}
 use Rattle.rules.specs.Avp.{endOf}
 use Rattle.rules.specs.Dictionary.{dictionary}
 use Rattle.rules.specs.Walk.{mostAvps}
 use Rattle.rules.specs.Exchange.{policyIn, windowIn, exchangeBy}
-use Rattle.rules.specs.Command.{commandGrammar}
 use Rattle.dictionary.specs.Entries.{entryOf}
 use Rattle.log.specs.Log.{Logged, loggedOf, avpsIn}
 use Rattle.exchange.specs.Firsts.{findIn}
@@ -64,13 +64,13 @@ pub record GroupsJudged (at : ℕ → Logged) (xs : List Avp) (s : List ℕ) (co
   pub policies : r .rows ≡ Pass → r .policies ≡ firstFault (policyLogged at count) count 0
   pub windows : r .rows ≡ Pass → r .windows ≡ firstFault (windowLogged at xs s count) count 0
 
--- the rows of all lists, then the exchange rules, of the command `s` with these command flags, whose list ends at `end`
-unfoldable pub listsBy : (ℕ → Logged) → List Avp → ℕ → List ℕ → ℕ → ℕ → Outcome
-listsBy at xs flags s end count =
-    orElse (rowsBy at (commandGrammar flags) end count)
-    (exchangeBy (findIn (firstsFrom count at 0 count noFirsts) count) (isRequest flags) xs s end
+-- the rows of all lists, then the exchange rules, of the command `s`, whose list ends at `end`
+unfoldable pub listsBy : (ℕ → Logged) → List Avp → CommandRules → List ℕ → ℕ → ℕ → Outcome
+listsBy at xs rules s end count =
+    orElse (rowsBy at (rules .rows) end count)
+    (exchangeBy (findIn (firstsFrom count at 0 count noFirsts) count) (rules .exchange) xs s end
     (policyNumberFrom at count 0) (firstFault (policyLogged at count) count 0) (firstFault (windowLogged at xs s count) count 0))
 
 -- by a log with so many AVPs, above 256 read as 256
-abbrev pub listsIn : ℕ → List ℕ → List ℕ → ℕ → ℕ → Outcome
-listsIn flags s log end count = listsBy (loggedOf log) (avpsIn log count) flags s end (min count mostAvps)
+abbrev pub listsIn : CommandRules → List ℕ → List ℕ → ℕ → ℕ → Outcome
+listsIn rules s log end count = listsBy (loggedOf log) (avpsIn log count) rules s end (min count mostAvps)

@@ -9,19 +9,17 @@ ghost use Rattle.rules.specs.Verdict.{verdictOf, Answers};
 ghost use Rattle.rules.specs.Rows.{admitsOthers};
 ghost use Rattle.rules.specs.RowChecks.{countedAt, memberFault};
 ghost use Rattle.rules.specs.Walk.{mostAvps};
-ghost use Rattle.rules.specs.Command.{commandGrammar};
 ghost use Rattle.log.specs.Log.{loggedOf};
 ghost use Rattle.lists.specs.Counts.{HasRoom, gain};
 ghost use Rattle.lists.specs.Firsts.{noFirsts, noted, ListJudged};
 ghost use Rattle.lists.specs.Exchanges.{listsIn};
 ghost use Rattle.lists.specs.Tables.{Lent};
 use dictionary::kinds;
-use octets::has_flag;
 use rules::Admission;
 use rules::Avp;
+use rules::CommandRules;
 use rules::Grammar;
 use rules::Outcome;
-use rules::flags;
 use rules::limits;
 
 mod admission_table;
@@ -136,41 +134,23 @@ fn list_outcome(
     requirements::missing_row(rows, grammar, &counts, end)
 }
 
-// The rows of a command go by R.
-fn command_grammar(flags: u8) -> Grammar
-    ensures { λ r. ⌜ r ≡ commandGrammar flags ⌝ }
-{
-    if has_flag(flags, flags::REQUEST) {
-        return Grammar::Request;
-    }
-    Grammar::Answer
-}
-
-// The rows and exchange rules of the command `s` with these command flags, whose AVPs stand in a log with this count,
-// above 256 read as 256, and whose own list ends at `end`.
+// What these rules say of the lists of the command `s`, whose AVPs stand in a log with this count, above 256 read as 256,
+// and whose own list ends at `end`.
 pub fn judge(
-    flags: u8,
+    rules: CommandRules,
     s: &[u8],
     log: &[u32; limits::LOG_NUMBERS],
     count: usize,
     end: u32,
 ) -> Outcome
-    ensures { λ r. ⌜ Answers verdictOf (listsIn flags (now (s .entry)) (now (log .entry)) end count) r ⌝ }
+    ensures { λ r. ⌜ Answers verdictOf (listsIn rules (now (s .entry)) (now (log .entry)) end count) r ⌝ }
 {
     let admissions = admission_table::table();
     let rows = row_table::table();
     let used = log::used(count);
     let mut firsts = no_firsts();
-    let own = list_outcome(
-        log,
-        0,
-        used,
-        &admissions,
-        &rows,
-        command_grammar(flags),
-        end,
-        &mut firsts,
-    );
+    let grammar = rules.rows;
+    let own = list_outcome(log, 0, used, &admissions, &rows, grammar, end, &mut firsts);
     if let Outcome::Refused(_) = own {
         return own;
     }
@@ -182,9 +162,9 @@ pub fn judge(
     let number = groups.number;
     let policies = groups.policies;
     let windows = groups.windows;
-    let request = has_flag(flags, flags::REQUEST);
+    let exchange = rules.exchange;
     exchange::judge(
-        request,
+        exchange,
         s,
         log,
         &firsts,

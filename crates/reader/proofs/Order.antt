@@ -12,10 +12,10 @@ use Rattle.rules.specs.declared.Outcome.the-variants.{Pass, Refused}
 use Rattle.rules.specs.declared.Record.{Record}
 use Rattle.rules.specs.declared.Reading.{Reading}
 use Rattle.rules.specs.Verdict.{verdict, verdictOf, orElse}
-use Rattle.rules.specs.Header.{headerOutcome, commandFlags}
+use Rattle.rules.specs.Header.{headerOutcome}
 use Rattle.rules.specs.Walk.{Walked, whole, stopped, avpsOf}
 use Rattle.rules.specs.Dictionary.{Entry, dictionary}
-use Rattle.rules.specs.Command.{ownList, walkBy, walkOf, listsOutcome, walkedOutcome, commandOutcome, commandVerdict}
+use Rattle.rules.specs.Command.{commandRules, ownList, walkBy, walkOf, listsOutcome, walkedOutcome, commandOutcome, commandVerdict}
 use Rattle.rules.specs.Record.{recordOf, emptyRecord, reading}
 use Rattle.rules.proofs.Outcomes.{refused-first, pass-first}
 use Rattle.rules.proofs.Header.{headed}
@@ -38,10 +38,10 @@ use Rattle.reader.specs.Promise.{walkedIn, outcomeIn, metBy, countBy, lo
 
 -- the outcome of a walk, by the answer that it gave
 walked-whole : (s log : List ℕ) (w : Walked) (c : ℕ) → Whole c ≡ answerOf 0 w
-    → walkedIn s log w ≡ listsIn (commandFlags s) s log (length s) c
+    → walkedIn s log w ≡ listsIn (commandRules s) s log (length s) c
 walked-whole s log (whole xs) c e =
     let n : c ≡ 0 + length xs = cc in
-    ap (listsIn (commandFlags s) s log (length s)) (omega (arith, n))
+    ap (listsIn (commandRules s) s log (length s)) (omega (arith, n))
 walked-whole s log (stopped xs v) c e = let z : _≡_ {A = ℕ} 0 1 = cc in absurd (omega arith)
 
 walked-stopped : (s log : List ℕ) (w : Walked) (c : ℕ) (v : Verdict) → Stopped c v ≡ answerOf 0 w → walkedIn s log w ≡ Refused v
@@ -97,18 +97,18 @@ module _ (table : List ℕ) (is : IsTable table) where
 
   -- by the log of a whole walk the lists are judged as document 01 judges them
   lists-same : (s log : List ℕ) (xs : List Avp) → length xs ≤ 256 → Keeps log (loggedFrom (numberBy table) 0 xs) → IsForest 1 xs
-      → listsIn (commandFlags s) s log (length s) (length xs) ≡ listsOutcome s xs
+      → listsIn (commandRules s) s log (length s) (length xs) ≡ listsOutcome s xs
   unfolding listsOutcome
   lists-same s log xs few keeps forest =
       let e : min (length xs) 256 ≡ length xs = omega arith in
       let kept : Keeps log (loggedFrom (entryOf dictionary) 0 xs) =
       rw (logged-same (numberBy table) (entryOf dictionary) numbers-same 0 xs) at keeps in
-      ap (listsBy (loggedOf log) (avpsIn log (length xs)) (commandFlags s) s (length s)) e
-      ∙ ap (λ (ys : List Avp). listsBy (loggedOf log) ys (commandFlags s) s (length s) (length xs))
+      ap (listsBy (loggedOf log) (avpsIn log (length xs)) (commandRules s) s (length s)) e
+      ∙ ap (λ (ys : List Avp). listsBy (loggedOf log) ys (commandRules s) s (length s) (length xs))
       (kept-avps (entryOf dictionary) log xs few kept)
-      ∙ walked-lists xs forest few (loggedOf log) noneLogged kept (commandFlags s) s (length s)
+      ∙ walked-lists xs forest few (loggedOf log) noneLogged kept (commandRules s) s (length s)
 
-  walked-same : (s log : List ℕ) (w : Walked) → ((xs : List Avp) → w ≡ whole xs → listsIn (commandFlags s) s log (length s) (length xs) ≡ listsOutcome s xs)
+  walked-same : (s log : List ℕ) (w : Walked) → ((xs : List Avp) → w ≡ whole xs → listsIn (commandRules s) s log (length s) (length xs) ≡ listsOutcome s xs)
       → walkedIn s log w ≡ walkedOutcome s w
   walked-same s log (whole xs) h = h xs refl
   walked-same s log (stopped xs v) h = refl
@@ -189,7 +189,7 @@ module _ (table s : List ℕ) where
           }
 
       -- the walk is whole, and the lists are judged
-      pub judged-whole : (c : ℕ) → r ≡ Whole c → (o : Outcome) → o ≡ listsIn (commandFlags s) s after (length s) c
+      pub judged-whole : (c : ℕ) → r ≡ Whole c → (o : Outcome) → o ≡ listsIn (commandRules s) s after (length s) c
           → IsJudgedBy table s before (record { outcome = o; count = c }) after
       judged-whole c e o q =
           let k = w .read c e in

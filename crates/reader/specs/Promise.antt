@@ -8,10 +8,10 @@ use Rattle.rules.specs.declared.Verdict.{Verdict}
 use Rattle.rules.specs.declared.Outcome.{Outcome}
 use Rattle.rules.specs.declared.Outcome.the-variants.{Pass, Refused}
 use Rattle.rules.specs.Verdict.{orElse, verdictOf}
-use Rattle.rules.specs.Header.{headerSize, headerOutcome, commandFlags}
+use Rattle.rules.specs.Header.{headerSize, headerOutcome}
 use Rattle.rules.specs.Dictionary.{Entry, dictionary}
 use Rattle.rules.specs.Walk.{mostAvps, Walked, whole, stopped, avpsOf}
-use Rattle.rules.specs.Command.{walkBy, walkOf, commandOutcome, commandVerdict}
+use Rattle.rules.specs.Command.{commandRules, walkBy, walkOf, commandOutcome, commandVerdict}
 use Rattle.dictionary.specs.Entries.{entryOf}
 use Rattle.dictionary.specs.Table.{IsTable, dictionaryBy}
 use Rattle.log.specs.Log.{putAll, avpsIn}
@@ -25,7 +25,7 @@ use Rattle.reader.specs.declared.Judgement.{Judgement}
 
 -- a fault of the walk is the answer; else its lists by the log that it left
 abbrev pub walkedIn : List ℕ → List ℕ → Walked → Outcome
-walkedIn s log (whole xs) = listsIn (commandFlags s) s log (length s) (length xs)
+walkedIn s log (whole xs) = listsIn (commandRules s) s log (length s) (length xs)
 walkedIn s log (stopped xs v) = Refused v
 
 -- the outcome of a command whose walk went by a dictionary and left this log

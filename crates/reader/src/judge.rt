@@ -2,7 +2,8 @@
 ghost use mathlib.Core.Path.{_≡_};
 ghost use Prim.Native.Nat.{_≤_};
 ghost use lib.ListN.{length};
-ghost use Rattle.rules.specs.Header.{headerSize, longestCommand, commandFlags, headerOutcome};
+ghost use Rattle.rules.specs.Header.{headerSize, longestCommand, headerOutcome};
+ghost use Rattle.rules.specs.Command.{commandRules};
 ghost use Rattle.lists.specs.Exchanges.{listsIn};
 ghost use Rattle.reader.specs.Promise.{IsJudgedBy, IsJudged};
 use crate::Judgement;
@@ -15,9 +16,10 @@ use walk::Walk;
 // Rows and exchange rules by what a log holds.
 fn lists_outcome(s: &[u8], log: &[u32; limits::LOG_NUMBERS], count: usize) -> Outcome
     requires { ⌜ (headerSize ≤ length (now s)) × (length (now s) ≤ longestCommand) ⌝ }
-    ensures { λ r. ⌜ r ≡ listsIn (commandFlags (now (s .entry))) (now (s .entry)) (now (log .entry)) (length (now (s .entry))) count ⌝ }
+    ensures { λ r. ⌜ r ≡ listsIn (commandRules (now (s .entry))) (now (s .entry)) (now (log .entry)) (length (now (s .entry))) count ⌝ }
 {
-    lists::judge(s[4], s, log, count, s.len() as u32)
+    let rules = header::command_rules(s[4]);
+    lists::judge(rules, s, log, count, s.len() as u32)
 }
 
 // The AVPs of a command whose header passed: its walk by a table of plain codes, into a lent log, then its lists.

@@ -1,4 +1,5 @@
--- 01, Order of checks: header, walk, rows, exchange rules, windows; the first that applies is the answer.
+-- 01, Order of checks: header, walk, rows, exchange rules, windows; the first that applies is the answer. What a
+-- command is judged by is chosen once, from its header.
 use Prim.Native.Nat.{ℕ}
 use mathlib.Core.List.{List}
 use mathlib.Core.Bool.{cond}
@@ -7,8 +8,9 @@ use Rattle.rules.specs.declared.Avp.{Avp}
 use Rattle.rules.specs.declared.Verdict.{Verdict}
 use Rattle.rules.specs.declared.Outcome.{Outcome}
 use Rattle.rules.specs.declared.Outcome.the-variants.{Refused}
-use Rattle.rules.specs.declared.Grammar.{Grammar}
 use Rattle.rules.specs.declared.Grammar.the-variants.{Request, Answer}
+use Rattle.rules.specs.declared.ExchangeRules.the-variants.{OfRequest, OfAnswer}
+use Rattle.rules.specs.declared.CommandRules.{CommandRules}
 use Rattle.rules.specs.Verdict.{orElse, verdictOf}
 use Rattle.rules.specs.Header.{headerSize, headerOutcome, commandFlags, isRequest}
 use Rattle.rules.specs.Dictionary.{Entry, dictionary}
@@ -16,9 +18,20 @@ use Rattle.rules.specs.Walk.{Standing, Walked, whole, stopped, walkList}
 use Rattle.rules.specs.RowChecks.{rowsOutcome}
 use Rattle.rules.specs.Exchange.{exchangeOutcome}
 
--- the rows of a command go by R
-abbrev pub commandGrammar : ℕ → Grammar
-commandGrammar flags = cond (isRequest flags) Request Answer
+-- a request and an answer, each by its rows and its exchange rules
+abbrev pub ofRequest : CommandRules
+ofRequest = record { rows = Request; exchange = OfRequest }
+
+abbrev pub ofAnswer : CommandRules
+ofAnswer = record { rows = Answer; exchange = OfAnswer }
+
+-- what a command is judged by, by its flags: R chooses
+unfoldable pub rulesBy : ℕ → CommandRules
+rulesBy flags = cond (isRequest flags) ofRequest ofAnswer
+
+-- by its header
+abbrev pub commandRules : List ℕ → CommandRules
+commandRules s = rulesBy (commandFlags s)
 
 -- the command's own list, which is at depth 1
 abbrev pub ownList : List ℕ → Standing
@@ -35,8 +48,8 @@ walkOf s = walkBy dictionary s
 -- rows and exchange rules over the AVPs of the walk
 unfoldable pub listsOutcome : List ℕ → List Avp → Outcome
 listsOutcome s xs =
-    orElse (rowsOutcome dictionary (commandGrammar (commandFlags s)) (length s) xs)
-    (exchangeOutcome (isRequest (commandFlags s)) xs s (length s))
+    orElse (rowsOutcome dictionary (commandRules s .rows) (length s) xs)
+    (exchangeOutcome (commandRules s .exchange) xs s (length s))
 
 -- a fault of the walk is the answer, however its lists would be judged; else rows and exchange rules
 abbrev pub walkedOutcome : List ℕ → Walked → Outcome

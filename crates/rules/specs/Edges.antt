@@ -21,7 +21,7 @@ use Rattle.rules.specs.RowChecks.{admissionFrom, memberOutcome, missingF
 use Rattle.rules.specs.Search.{positionsFrom}
 use Rattle.rules.specs.Times.{moment, isBefore, seconds}
 use Rattle.rules.specs.Exchange.{direction, volume, totalAlone, firstRequest, laterRequest, requestOutcome, resultOutcome, policiesOutcome, policyIn, policiesAt, answerOutcome, windowIn, eachWindow, exchangeBy}
-use Rattle.rules.specs.Command.{walkOf, listsOutcome, commandOutcome, commandVerdict}
+use Rattle.rules.specs.Command.{rulesBy, walkOf, listsOutcome, commandOutcome, commandVerdict}
 use Rattle.rules.specs.Lines.{digits}
 use Rattle.rules.specs.Book.{isCut, linesFrom, isBook, listing}
 
@@ -321,7 +321,7 @@ listings bs = map (λ b. listing (b .octets)) bs
 computed : (verdicts cases ≡ answers cases) × (verdicts further ≡ answers further) × (verdicts totals ≡ answers totals)
     × (verdicts windowed ≡ answers windowed) × (verdicts policied ≡ answers policied)
     × (listing book ≡ bookListing) × (listings furtherBooks ≡ expected furtherBooks)
-unfolding headOfBook bookCase furtherBooks expected listings verdicts answers cases case header h avp avpOf3GPP sBegins vendorId sGoesOn sEnds sFront s further totals windowed windowOf provider numberOfUes volumeOf firstRequestOf answerBegins answerOf reference address policyOf rating policy proxyOf policied book bookListing octets numberAt padded lengthOutcome applicationOutcome flagsOutcome headerOutcome avpAt rowsOf admitsOthers dictionary find framing wrongFlags unsupported wrongWidth wrongValue tooDeep contents checked walkAvp walkList admissionFrom memberOutcome missingFrom membersOutcome membersAt groupsOutcome rowsOutcome positionsFrom direction volume totalAlone firstRequest laterRequest requestOutcome resultOutcome policiesOutcome policyIn policiesAt answerOutcome moment isBefore windowIn eachWindow exchangeBy walkOf listsOutcome commandOutcome commandVerdict digits isCut linesFrom isBook listing
+unfolding headOfBook bookCase furtherBooks expected listings verdicts answers cases case header h avp avpOf3GPP sBegins vendorId sGoesOn sEnds sFront s further totals windowed windowOf provider numberOfUes volumeOf firstRequestOf answerBegins answerOf reference address policyOf rating policy proxyOf policied book bookListing octets numberAt padded lengthOutcome applicationOutcome flagsOutcome headerOutcome avpAt rowsOf admitsOthers dictionary find framing wrongFlags unsupported wrongWidth wrongValue tooDeep contents checked walkAvp walkList admissionFrom memberOutcome missingFrom membersOutcome membersAt groupsOutcome rowsOutcome positionsFrom direction volume totalAlone firstRequest laterRequest requestOutcome resultOutcome policiesOutcome policyIn policiesAt answerOutcome moment isBefore windowIn eachWindow exchangeBy rulesBy walkOf listsOutcome commandOutcome commandVerdict digits isCut linesFrom isBook listing
 computed = (refl, refl, refl, refl, refl, refl, refl)
 
 -- each marked case has its answer

@@ -4,11 +4,13 @@
 -- comment says so.
 use Prim.Native.Nat.{ℕ, _+_}
 use mathlib.Core.List.{List, [], _∷_}
-use mathlib.Core.Bool.{Bool, cond}
+use mathlib.Core.Bool.{cond}
 use lib.Dec.{leb, eqb}
 use Rattle.rules.specs.declared.Avp.{Avp}
 use Rattle.rules.specs.declared.Outcome.{Outcome}
 use Rattle.rules.specs.declared.Outcome.the-variants.{Pass}
+use Rattle.rules.specs.declared.ExchangeRules.{ExchangeRules}
+use Rattle.rules.specs.declared.ExchangeRules.the-variants.{OfRequest, OfAnswer}
 use Rattle.rules.specs.declared.Found.{Found}
 use Rattle.rules.specs.declared.Found.the-variants.{At, Nothing}
 use Rattle.rules.specs.Octets.{numberAt}
@@ -156,16 +158,16 @@ eachWindow xs s i (a ∷ rest) =
     orElse (windowAt xs s i a) (eachWindow xs s (i + 1) rest)
 
 -- the rules of a request or of an answer; `number` is how many policies there are, `policies` what is said of each
-abbrev pub byCommand : (ℕ → ℕ → Found) → Bool → List Avp → List ℕ → ℕ → ℕ → Outcome → Outcome
-byCommand find request xs s end number policies =
-    cond request (requestOutcome find xs s end) (answerOutcome find xs end number policies)
+abbrev pub byCommand : (ℕ → ℕ → Found) → ExchangeRules → List Avp → List ℕ → ℕ → ℕ → Outcome → Outcome
+byCommand find OfRequest xs s end number policies = requestOutcome find xs s end
+byCommand find OfAnswer xs s end number policies = answerOutcome find xs end number policies
 
 -- those rules, then what is said of the windows
-unfoldable pub exchangeBy : (ℕ → ℕ → Found) → Bool → List Avp → List ℕ → ℕ → ℕ → Outcome → Outcome → Outcome
-exchangeBy find request xs s end number policies windows =
-    orElse (byCommand find request xs s end number policies) windows
+unfoldable pub exchangeBy : (ℕ → ℕ → Found) → ExchangeRules → List Avp → List ℕ → ℕ → ℕ → Outcome → Outcome → Outcome
+exchangeBy find rules xs s end number policies windows =
+    orElse (byCommand find rules xs s end number policies) windows
 
 -- by the search of the command's own list, with each policy and each window
-abbrev pub exchangeOutcome : Bool → List Avp → List ℕ → ℕ → Outcome
-exchangeOutcome request xs s end =
-    exchangeBy (first xs) request xs s end (policyNumber xs) (eachPolicy xs) (eachWindow xs s 0 xs)
+abbrev pub exchangeOutcome : ExchangeRules → List Avp → List ℕ → ℕ → Outcome
+exchangeOutcome rules xs s end =
+    exchangeBy (first xs) rules xs s end (policyNumber xs) (eachPolicy xs) (eachWindow xs s 0 xs)

@@ -12,13 +12,13 @@ use Rattle.rules.specs.declared.Written.{Written}
 use Rattle.rules.specs.declared.Outcome.{Outcome}
 use Rattle.rules.specs.declared.Outcome.the-variants.{Pass, Refused}
 use Rattle.rules.specs.Verdict.{writerOnlyNumbers, isAmong, verdict}
-use Rattle.rules.specs.Header.{headerOutcome, commandFlags, isRequest, longestCommand}
+use Rattle.rules.specs.Header.{headerOutcome, longestCommand}
 use Rattle.rules.specs.Dictionary.{dictionary}
 use Rattle.rules.specs.Walk.{whole, stopped}
 use Rattle.rules.specs.RowChecks.{listOutcome, groupsOutcome}
 use Rattle.rules.specs.Search.{first}
 use Rattle.rules.specs.Exchange.{byCommand, policyNumber, eachPolicy, eachWindow}
-use Rattle.rules.specs.Command.{commandGrammar, walkOf, commandVerdict}
+use Rattle.rules.specs.Command.{commandRules, walkOf, commandVerdict}
 use Rattle.rules.specs.Draft.{Draft, isWellFormed}
 use Rattle.rules.specs.Writer.{draftOctets, writing}
 
@@ -47,14 +47,14 @@ fitsTable v =
 -- the checks over the AVPs of a command's walk, in 01's order: the rows of the command's own list, those of each group,
 -- the exchange rules of the request or the answer, the windows
 abbrev pub ownRows : List ℕ → List Avp → Outcome
-ownRows c xs = listOutcome (commandGrammar (commandFlags c)) 1 (length c) xs
+ownRows c xs = listOutcome (commandRules c .rows) 1 (length c) xs
 
 abbrev pub groupRows : List ℕ → List Avp → Outcome
 groupRows c xs = groupsOutcome dictionary xs
 
 abbrev pub exchange : List ℕ → List Avp → Outcome
 exchange c xs =
-    byCommand (first xs) (isRequest (commandFlags c)) xs c (length c) (policyNumber xs) (eachPolicy xs)
+    byCommand (first xs) (commandRules c .exchange) xs c (length c) (policyNumber xs) (eachPolicy xs)
 
 abbrev pub windows : List ℕ → List Avp → Outcome
 windows c xs = eachWindow xs c 0 xs

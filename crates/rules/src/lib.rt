@@ -81,6 +81,18 @@ pub enum Grammar {
     TransferPolicy,
 }
 
+// The exchange rules that apply to a command: those of a request or of an answer, each with the window rule.
+pub enum ExchangeRules {
+    OfRequest,
+    OfAnswer,
+}
+
+// What a command is judged by, chosen from its header: the rows of its own list, and the exchange rules.
+pub struct CommandRules {
+    pub rows: Grammar,
+    pub exchange: ExchangeRules,
+}
+
 // The form of an AVP's data: of any length, of a fixed width, or a list of AVPs that is read.
 pub enum Form {
     Any,

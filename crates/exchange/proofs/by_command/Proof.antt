@@ -3,18 +3,31 @@ use borrow.Author.Needs.{needs}
 use Rattle.exchange.proofs.by_command.Statement.{statement}
 use Rattle.exchange.proofs.by_command.Tie as tie
 
+enum-told : tie.Need-enum-told
+enum-told c = search needs
+
 request-outcome-requires : tie.Need-request-outcome-requires
 request-outcome-requires c κs = search needs
 
-returns : tie.Need-returns
-returns c = rw (c .before .if1 .taken) (c .request-outcome .ensures)
+enum-told-2 : tie.Need-enum-told-2
+enum-told-2 c = search needs
 
 answer-outcome-requires : tie.Need-answer-outcome-requires
 answer-outcome-requires c κs = search needs
 
+returns : tie.Need-returns
+returns c = rw (c .before .enum-told .given .1) (c .request-outcome .ensures)
+
 returns-2 : tie.Need-returns-2
-returns-2 c = rw (c .before .if1 .left) (c .answer-outcome .ensures)
+returns-2 c = rw (c .before .enum-told2 .given .1) (c .answer-outcome .ensures)
 
 pub by-command-spec : {M : Type 1} → statement M
 by-command-spec =
-    tie.close (tie.spec request-outcome-requires returns answer-outcome-requires returns-2)
+    tie.close
+    (tie.spec
+    enum-told
+    request-outcome-requires
+    enum-told-2
+    answer-outcome-requires
+    returns
+    returns-2)

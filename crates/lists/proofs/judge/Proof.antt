@@ -7,7 +7,6 @@ use native.Mathlib.Nat.{sub-zero}
 use native.Mathlib.Omega.{arith}
 use Rattle.rules.specs.declared.Avp.{Avp}
 use Rattle.rules.specs.Walk.{mostAvps}
-use Rattle.rules.specs.Command.{commandGrammar}
 use Rattle.rules.proofs.Outcomes.{answers}
 use Rattle.log.specs.Log.{loggedOf, avpsIn}
 use Rattle.log.proofs.Log.{avps-used}
@@ -30,29 +29,26 @@ used-requires c κs = search needs
 used : (c : tie.After-used) →
     let a = c .before .before .before .before .args in
     let n = c .used .result in
-    listsBy (loggedOf (a .log .now)) (avpsIn (a .log .now) n) (a .flags) (a .s .now) (a .end) n
-    ≡ listsIn (a .flags) (a .s .now) (a .log .now) (a .end) (a .count)
+    listsBy (loggedOf (a .log .now)) (avpsIn (a .log .now) n) (a .rules) (a .s .now) (a .end) n
+    ≡ listsIn (a .rules) (a .s .now) (a .log .now) (a .end) (a .count)
 used c =
     let a = c .before .before .before .before .args in
     let same = ap (avpsIn (a .log .now)) (c .used .ensures) ∙ avps-used (a .log .now) (a .count) in
-    ap (λ (xs : List Avp). listsBy (loggedOf (a .log .now)) xs (a .flags) (a .s .now) (a .end) (c .used .result)) same
-    ∙ ap (listsBy (loggedOf (a .log .now)) (avpsIn (a .log .now) (a .count)) (a .flags) (a .s .now) (a .end)) (c .used .ensures)
+    ap (λ (xs : List Avp). listsBy (loggedOf (a .log .now)) xs (a .rules) (a .s .now) (a .end) (c .used .result)) same
+    ∙ ap (listsBy (loggedOf (a .log .now)) (avpsIn (a .log .now) (a .count)) (a .rules) (a .s .now) (a .end)) (c .used .ensures)
 
 no-firsts-requires : tie.Need-no-firsts-requires
 no-firsts-requires c κs = search needs
-
-command-grammar-requires : tie.Need-command-grammar-requires
-command-grammar-requires c κs = search needs
 
 list-outcome-requires : tie.Need-list-outcome-requires
 list-outcome-requires c κs = search needs
 
 -- the outcome of the command's list
 own : (c : tie.After-list-outcome) →
-    let u = c .before .before .before .before .before .before in
+    let u = c .before .before .before .before .before in
     let a = u .before .before .before .before .args in
-    c .list-outcome .result ≡ listBy (loggedOf (a .log .now)) (commandGrammar (a .flags)) (a .end) 0 (u .used .result)
-own c = rw (← c .before .before .command-grammar .ensures) (c .list-outcome .ensures .is)
+    c .list-outcome .result ≡ listBy (loggedOf (a .log .now)) (a .rules .rows) (a .end) 0 (u .used .result)
+own c = c .list-outcome .ensures .is
 
 enum-told : tie.Need-enum-told
 enum-told c = search needs
@@ -60,7 +56,7 @@ enum-told c = search needs
 returns : tie.Need-returns
 returns c =
     let l = c .before .before in
-    let u = l .before .before .before .before .before .before in
+    let u = l .before .before .before .before .before in
     answers _ _ _ (own-refused _ _ _ _ _ _ _ (own l) (c .enum-told .given .1) ∙ used u)
 
 enum-told-2 : tie.Need-enum-told-2
@@ -77,7 +73,7 @@ returns-2 c =
     let g = c .before .before in
     let p = g .before .before .before in
     let l = p .before .before in
-    let u = l .before .before .before .before .before .before in
+    let u = l .before .before .before .before .before in
     answers _ _ _
     (group-refused _ _ _ _ _ _ _ (own l) (p .enum-told2 .given .1) _ (g .groups-outcome .ensures .rows) (c .enum-told3 .given .1)
     ∙ used u)
@@ -85,27 +81,23 @@ returns-2 c =
 enum-told-4 : tie.Need-enum-told-4
 enum-told-4 c = search needs
 
-has-flag-requires : tie.Need-has-flag-requires
-has-flag-requires c κs = search needs
-
 judge-requires : tie.Need-judge-requires
 judge-requires c κs = search needs
 
 returns-3 : tie.Need-returns-3
 returns-3 c =
-    let f = c .before .before in
-    let q = f .before in
+    let q = c .before .before in
     let g = q .before .before in
     let p = g .before .before .before in
     let l = p .before .before in
-    let y = l .before .before .before .before .before in
+    let y = l .before .before .before .before in
     let u = y .before in
     let passed = q .enum-told4 .given .1 in
     let groups = g .groups-outcome .ensures in
     let few : min (u .used .result) mostAvps ≡ u .used .result = omega (arith, u .used .ensures) in
     let kept = rw (y .no-firsts .ensures, sub-zero (u .used .result)) at (l .list-outcome .ensures .kept (p .enum-told2 .given .1)) in
     answers _ _ _
-    ((rw (few, kept, f .has-flag .ensures, groups .number passed, groups .policies passed, groups .windows passed) at (c .judge .ensures .is))
+    ((rw (few, kept, groups .number passed, groups .policies passed, groups .windows passed) at (c .judge .ensures .is))
     ∙ rows-passed _ _ _ _ _ _ _ (own l) (p .enum-told2 .given .1) _ (groups .rows) passed
     ∙ used u)
 
@@ -117,7 +109,6 @@ judge-spec =
     table-requires-2
     used-requires
     no-firsts-requires
-    command-grammar-requires
     list-outcome-requires
     enum-told
     returns
@@ -126,6 +117,5 @@ judge-spec =
     enum-told-3
     returns-2
     enum-told-4
-    has-flag-requires
     judge-requires
     returns-3)

@@ -15,7 +15,7 @@ use Rattle.rules.specs.Walk.{framing, wrongFlags, unsupported, wrongWidt
 use Rattle.rules.specs.RowChecks.{admissionFrom, memberOutcome, missingFrom, membersOutcome, membersAt, groupsOutcome, rowsOutcome}
 use Rattle.rules.specs.Search.{positionsFrom}
 use Rattle.rules.specs.Exchange.{volume, firstRequest, laterRequest, requestOutcome, resultOutcome, policiesOutcome, policyIn, policiesAt, answerOutcome, windowIn, eachWindow, exchangeBy}
-use Rattle.rules.specs.Command.{walkOf, listsOutcome, commandOutcome, commandVerdict}
+use Rattle.rules.specs.Command.{rulesBy, walkOf, listsOutcome, commandOutcome, commandVerdict}
 use Rattle.rules.specs.Record.{recordOf, emptyRecord, reading}
 use Rattle.rules.specs.Agreement.{fillsOne, agreesBelow, agree}
 use Rattle.rules.specs.Wire.{avpFlags, avpHeader, avpOctets, listOctets, flagsOctet, commandHeader, commandOctets}
@@ -94,7 +94,7 @@ worked x = record {
 
 -- each example has its answers, its output and its accepted drafts
 pub worked-calls : map worked examples ≡ examples
-unfolding examples s altered header avp avpOf3GPP sBegins vendorId sGoesOn sEnds sFront answersOf outputAfterAll acceptedDrafts numberAt padded lengthOutcome applicationOutcome flagsOutcome headerOutcome avpAt rowsOf admitsOthers dictionary find framing wrongFlags unsupported wrongWidth wrongValue tooDeep contents checked walkAvp walkList admissionFrom memberOutcome missingFrom membersOutcome membersAt groupsOutcome rowsOutcome positionsFrom volume firstRequest laterRequest requestOutcome resultOutcome policiesOutcome policyIn policiesAt answerOutcome windowIn eachWindow exchangeBy walkOf listsOutcome commandOutcome commandVerdict recordOf emptyRecord reading octets avpFlags avpHeader avpOctets listOctets flagsOctet commandHeader commandOctets isBlank allBlank isPlaced allPlaced isTree membersSize hasSizes identifiersFit nameFits namesFit isWellFormed ownOutcome draftOutcome octetsWritten writing outputAfter
+unfolding examples s altered header avp avpOf3GPP sBegins vendorId sGoesOn sEnds sFront answersOf outputAfterAll acceptedDrafts numberAt padded lengthOutcome applicationOutcome flagsOutcome headerOutcome avpAt rowsOf admitsOthers dictionary find framing wrongFlags unsupported wrongWidth wrongValue tooDeep contents checked walkAvp walkList admissionFrom memberOutcome missingFrom membersOutcome membersAt groupsOutcome rowsOutcome positionsFrom volume firstRequest laterRequest requestOutcome resultOutcome policiesOutcome policyIn policiesAt answerOutcome windowIn eachWindow exchangeBy rulesBy walkOf listsOutcome commandOutcome commandVerdict recordOf emptyRecord reading octets avpFlags avpHeader avpOctets listOctets flagsOctet commandHeader commandOctets isBlank allBlank isPlaced allPlaced isTree membersSize hasSizes identifiersFit nameFits namesFit isWellFormed ownOutcome draftOutcome octetsWritten writing outputAfter
 worked-calls = refl
 
 -- ---- agreement

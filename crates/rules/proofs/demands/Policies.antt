@@ -14,7 +14,7 @@ use Rattle.rules.specs.Verdict.{refused, verdict}
 use Rattle.rules.specs.Header.{commandFlags, isRequest}
 use Rattle.rules.specs.Search.{first, howMany}
 use Rattle.rules.specs.Exchange.{require, resultOutcome, policyNumber, policiesOutcome, eachPolicy, answerOutcome}
-use Rattle.rules.specs.Command.{commandVerdict}
+use Rattle.rules.specs.Command.{rulesBy, commandVerdict}
 use Rattle.rules.specs.Order.{exchange}
 use Rattle.rules.specs.Policies.{Offers, Unreferenced, Unaddressed, Equipped}
 use Rattle.rules.specs.Volumes.{Has}
@@ -28,7 +28,7 @@ module _ (c : List ℕ) (xs : List Avp) where
   number-is least o = omega (arith, search-number xs 10415 4207 0, o .policies)
 
   unreferenced : Unreferenced c xs → exchange c xs ≡ refused 5005 (length c) 10415 4202
-  unfolding answerOutcome policiesOutcome
+  unfolding rulesBy answerOutcome policiesOutcome
   unreferenced u =
       let o = u .offers in
       rw (
@@ -39,7 +39,7 @@ module _ (c : List ℕ) (xs : List Avp) where
       )
 
   unaddressed : Unaddressed c xs → exchange c xs ≡ refused 5005 (length c) 10415 2207
-  unfolding answerOutcome policiesOutcome
+  unfolding rulesBy answerOutcome policiesOutcome
   unaddressed u =
       let o = u .offers in
       let two = number-is 2 o in
@@ -97,6 +97,6 @@ module _ (c : List ℕ) (xs : List Avp) where
   -- Ruled out: a reader that asks for 2207 with one policy, or for 4202 with none.
   pub request-9-asked : isRequest (commandFlags c) ≡ false → resultOutcome (first xs) xs (length c) ≡ Pass
       → Equipped xs → exchange c xs ≡ eachPolicy xs
-  unfolding answerOutcome policiesOutcome
+  unfolding rulesBy answerOutcome policiesOutcome
   request-9-asked answer result q =
       rw (answer, result, referenced q (length c), addressed q (length c))

@@ -16,7 +16,7 @@ use Rattle.rules.specs.Walk.{whole}
 use Rattle.rules.specs.RowChecks.{memberFault}
 use Rattle.rules.specs.Search.{avpIn, first, FirstAvp, Stands}
 use Rattle.rules.specs.Exchange.{require, firstFound, direction, volume, notBeside, totalAlone, firstRequest, laterRequest, byRequestType, requestOutcome}
-use Rattle.rules.specs.Command.{walkOf, commandVerdict}
+use Rattle.rules.specs.Command.{rulesBy, walkOf, commandVerdict}
 use Rattle.rules.specs.Order.{ownRows, groupRows, exchange}
 use Rattle.rules.specs.Volumes.{Has, HasDirection, StandsAlone, RequestOfType, TotalBeside, CompleteFirst, CompleteLater}
 use Rattle.rules.proofs.demands.Found.{search-first, search-absent}
@@ -77,7 +77,7 @@ module _ (xs : List Avp) where
 
   module _ (c : List ℕ) where
     by-type : (value : ℕ) → RequestOfType c xs value → exchange c xs ≡ byRequestType (first xs) xs (length c) value
-    unfolding requestOutcome
+    unfolding rulesBy requestOutcome
     by-type value r = rw (r .request, found (r .position, r .typed), r .valued)
 
     module _ (i : ℕ) (b : TotalBeside c xs i) where

@@ -1,19 +1,19 @@
 -- The octets that the writer gives to the meaning of an accepted command: as long as the command, and accepted again
 -- with the same meaning.
 use mathlib.Core.Path.{_≡_, refl, sym, ap, _∙_}
-use mathlib.Core.Bool.{Bool}
 use mathlib.Core.List.{List, [], _∷_, map}
 use Prim.Native.Nat.{ℕ, _%_}
 use native.Mathlib.Omega.{arith}
 use lib.ListN.{length, drop, length-map, length-replicate}
 use Rattle.rules.specs.declared.Avp.{Avp}
 use Rattle.rules.specs.declared.Outcome.the-variants.{Pass}
+use Rattle.rules.specs.declared.ExchangeRules.{ExchangeRules}
 use Rattle.rules.specs.Octets.{AreOctets}
 use Rattle.rules.specs.Header.{lengthField, commandFlags, isRequest, isProxiable, isError, flagsOutcome, headerOutcome}
 use Rattle.rules.specs.Dictionary.{Entry, dictionary}
 use Rattle.rules.specs.Walk.{whole, avpsOf}
 use Rattle.rules.specs.Exchange.{exchangeOutcome}
-use Rattle.rules.specs.Command.{walkOf, listsOutcome, commandOutcome}
+use Rattle.rules.specs.Command.{rulesBy, commandRules, walkOf, listsOutcome, commandOutcome}
 use Rattle.rules.specs.Meaning.{Cell, meaningOf, cellOf}
 use Rattle.rules.specs.Wire.{listOctets, commandOctets}
 use Rattle.rules.proofs.Header.{length-pass, application-pass}
@@ -65,12 +65,16 @@ flags-same : (f g : ℕ) → isRequest f ≡ isRequest g → isProxiable f ≡ i
 unfolding flagsOutcome
 flags-same f g r p e = rw (r, p, e)
 
-lists-same : (s t : List ℕ) (xs : List Avp) → length s ≡ length t
-    → isRequest (commandFlags s) ≡ isRequest (commandFlags t)
-    → ((request : Bool) (end : ℕ) → exchangeOutcome request xs s end ≡ exchangeOutcome request xs t end)
+-- and the choice of what a command is judged by reads R
+rules-same : (f g : ℕ) → isRequest f ≡ isRequest g → rulesBy f ≡ rulesBy g
+unfolding rulesBy
+rules-same f g r = rw r
+
+lists-same : (s t : List ℕ) (xs : List Avp) → length s ≡ length t → commandRules s ≡ commandRules t
+    → ((rules : ExchangeRules) (end : ℕ) → exchangeOutcome rules xs s end ≡ exchangeOutcome rules xs t end)
     → listsOutcome s xs ≡ listsOutcome t xs
 unfolding listsOutcome
-lists-same s t xs l r e = rw (l, r, e (isRequest (commandFlags t)) (length t))
+lists-same s t xs l r e = rw (l, r, e (commandRules t .exchange) (length t))
 
 module _ (c : List ℕ) (oct : AreOctets c) (k : AcceptedItems c) where
   -- the octets that the writer gives
@@ -149,7 +153,8 @@ module _ (c : List ℕ) (oct : AreOctets c) (k : AcceptedItems c) where
       let g = fits-zeroed dictionary (k .items) f in
       let e = sym (cells-zeroed (map cellIn (k .items))) in
       let h = head-written (meaningOf c) again-writable in
-      sym (lists-same c again xs (sym again-long) (sym (h .flags-are .first))
+      sym (lists-same c again xs (sym again-long)
+      (rules-same (commandFlags c) (commandFlags again) (sym (h .flags-are .first)))
       (exchange-same xs c again
       (numbers-again c again 10415 4203 four-4203 refl (k .items) zeros 20 f g e (k .tail) again-tail passes)
       (numbers-again c again 10415 4205 four-4205 refl (k .items) zeros 20 f g e (k .tail) again-tail passes)

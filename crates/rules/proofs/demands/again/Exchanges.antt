@@ -5,6 +5,8 @@ use mathlib.Core.Bool.{Bool, true, false}
 use mathlib.Core.List.{List, [], _∷_}
 use Prim.Native.Nat.{ℕ, _+_}
 use Rattle.rules.specs.declared.Avp.{Avp}
+use Rattle.rules.specs.declared.ExchangeRules.{ExchangeRules}
+use Rattle.rules.specs.declared.ExchangeRules.the-variants.{OfRequest, OfAnswer}
 use Rattle.rules.specs.declared.Found.{Found}
 use Rattle.rules.specs.declared.Found.the-variants.{At, Nothing}
 use Rattle.rules.specs.Octets.{numberAt}
@@ -58,7 +60,7 @@ module _ (xs : List Avp) (s t : List ℕ) where
         (λ h. rw (h, window-same i (a .depth + 1), windows-same (i + 1) rest))
         (λ h. rw (h, windows-same (i + 1) rest))
 
-    pub exchange-same : (request : Bool) (end : ℕ) → exchangeOutcome request xs s end ≡ exchangeOutcome request xs t end
+    pub exchange-same : (rules : ExchangeRules) (end : ℕ) → exchangeOutcome rules xs s end ≡ exchangeOutcome rules xs t end
     unfolding exchangeBy
-    exchange-same true end = rw (request-same end, windows-same 0 xs)
-    exchange-same false end = rw (windows-same 0 xs)
+    exchange-same OfRequest end = rw (request-same end, windows-same 0 xs)
+    exchange-same OfAnswer end = rw (windows-same 0 xs)

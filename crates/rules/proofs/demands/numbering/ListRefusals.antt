@@ -16,6 +16,8 @@ use Rattle.rules.specs.declared.Mark.the-variants.{First, Once, AtMostOn
 use Rattle.rules.specs.declared.Admission.{Admission}
 use Rattle.rules.specs.declared.Admission.the-variants.{ByRow, NoRow}
 use Rattle.rules.specs.declared.Grammar.{Grammar}
+use Rattle.rules.specs.declared.ExchangeRules.{ExchangeRules}
+use Rattle.rules.specs.declared.ExchangeRules.the-variants.{OfRequest, OfAnswer}
 use Rattle.rules.specs.declared.Found.{Found}
 use Rattle.rules.specs.declared.Found.the-variants.{At, Nothing}
 use Rattle.rules.specs.Verdict.{orElse}
@@ -188,15 +190,15 @@ module _ (t : Verdict → Bool) (r : AvpRefusals t) where
       in-turn t (windowAt xs s i a) _ (where-meets (named a 10415 4204) w (window-meets xs s i (a .depth + 1)))
       (each-window-meets xs s (i + 1) rest)
 
-  by-command : (find : ℕ → ℕ → Found) (request : Bool) (xs : List Avp) (s : List ℕ) (end number : ℕ)
-      → meets t (byCommand find request xs s end number (eachPolicy xs)) ≡ true
-  by-command find true xs s end number = request-meets find xs s end
-  by-command find false xs s end number =
+  by-command : (find : ℕ → ℕ → Found) (rules : ExchangeRules) (xs : List Avp) (s : List ℕ) (end number : ℕ)
+      → meets t (byCommand find rules xs s end number (eachPolicy xs)) ≡ true
+  by-command find OfRequest xs s end number = request-meets find xs s end
+  by-command find OfAnswer xs s end number =
       answer-meets find xs end number (eachPolicy xs) (policies-at-meets xs (positions xs 10415 4207))
 
-  pub exchange-meets : (request : Bool) (xs : List Avp) (s : List ℕ) (end : ℕ)
-      → meets t (exchangeOutcome request xs s end) ≡ true
+  pub exchange-meets : (rules : ExchangeRules) (xs : List Avp) (s : List ℕ) (end : ℕ)
+      → meets t (exchangeOutcome rules xs s end) ≡ true
   unfolding exchangeBy
-  exchange-meets request xs s end =
-      in-turn t (byCommand (first xs) request xs s end (policyNumber xs) (eachPolicy xs)) _
-      (by-command (first xs) request xs s end (policyNumber xs)) (each-window-meets xs s 0 xs)
+  exchange-meets rules xs s end =
+      in-turn t (byCommand (first xs) rules xs s end (policyNumber xs) (eachPolicy xs)) _
+      (by-command (first xs) rules xs s end (policyNumber xs)) (each-window-meets xs s 0 xs)

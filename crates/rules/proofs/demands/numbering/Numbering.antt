@@ -14,10 +14,10 @@ use Rattle.rules.specs.declared.Verdict.{Verdict}
 use Rattle.rules.specs.declared.Outcome.{Outcome}
 use Rattle.rules.specs.declared.Outcome.the-variants.{Pass, Refused}
 use Rattle.rules.specs.Verdict.{readerNumbers, writerOnlyNumbers, writerNumbers, isAmong, verdictOf}
-use Rattle.rules.specs.Header.{commandFlags, isRequest, headerOutcome, longestCommand}
+use Rattle.rules.specs.Header.{headerOutcome, longestCommand}
 use Rattle.rules.specs.Dictionary.{dictionary}
 use Rattle.rules.specs.Walk.{Walked, whole, stopped, stopOf}
-use Rattle.rules.specs.Command.{commandGrammar, ownList, walkOf, listsOutcome, walkedOutcome, commandOutcome, commandVerdict}
+use Rattle.rules.specs.Command.{commandRules, ownList, walkOf, listsOutcome, walkedOutcome, commandOutcome, commandVerdict}
 use Rattle.rules.specs.Draft.{Draft}
 use Rattle.rules.specs.Writer.{draftOctets, ownOutcome, draftOutcome, writing}
 use Rattle.rules.specs.Order.{fitsTable}
@@ -33,8 +33,8 @@ module _ (s : List ℕ) (t : Verdict → Bool) (h : HeaderRefusals s t) (r : Avp
   lists-meet : (w : Walked) → meets t (stopOf w) ≡ true → meets t (walkedOutcome s w) ≡ true
   unfolding listsOutcome
   lists-meet (whole xs) e =
-      in-turn t _ _ (rows-meets t r dictionary (commandGrammar (commandFlags s)) (length s) xs)
-      (exchange-meets t r (isRequest (commandFlags s)) xs s (length s))
+      in-turn t _ _ (rows-meets t r dictionary (commandRules s .rows) (length s) xs)
+      (exchange-meets t r (commandRules s .exchange) xs s (length s))
   lists-meet (stopped xs v) e = e
 
   pub command-meets : meets t (commandOutcome s) ≡ true
