@@ -1,14 +1,14 @@
 -- Laws of the tables of rows: the rule of each, by one equation that is computed over all places of all lists; what a
 -- number says; and the search for the first missing row.
 use mathlib.Core.Path.{_≡_, refl, sym, ap, _∙_}
-use mathlib.Core.List.{List, [], _∷_}
+use mathlib.Core.List.{List, [], _∷_, map}
 use mathlib.Core.Bool.{Bool, true, false, cond, _&&_}
 use mathlib.Core.Logic.{⊎-elim}
 use Prim.Native.Nat.{ℕ, zero, suc, _+_, _-_, _*_, _/_, _%_, _≤_, _<_}
 use native.Mathlib.Nat.{add-zero, eq-or-lt-of-le}
 use native.Mathlib.Omega.{arith}
 use borrow.Author.Tests.{leb-false, eq-eqb, ne-eqb}
-use lib.Dec.{eqb, leb}
+use lib.Dec.{eqb, leb, ltb}
 use lib.ListN.{length, getD}
 use Rattle.rules.specs.declared.Grammar.{Grammar}
 use Rattle.rules.specs.declared.Mark.{Mark}
@@ -20,12 +20,12 @@ use Rattle.rules.specs.declared.Outcome.the-variants.{Pass}
 use Rattle.rules.specs.Verdict.{refused, refuseIf}
 use Rattle.rules.specs.Rows.{Row, rowsOf}
 use Rattle.rules.specs.Dictionary.{Entry, dictionary}
-use Rattle.rules.specs.RowChecks.{isRequired, missingFrom, missing}
+use Rattle.rules.specs.RowChecks.{missingFrom, missing}
 use Rattle.rules.proofs.Names.{Absent}
 use Rattle.dictionary.proofs.Entries.{said-behind}
 use Rattle.dictionary.specs.Entries.{saidAt, vendorOf, codeOf}
 use Rattle.lists.specs.ByLog.{admissionAt}
-use Rattle.lists.specs.Tables.{lists, listAt, ListAt, entryPlaces, rowPlaces, markAt, markIn, admissionIn, AdmissionTable, Admits, rowIn, endOfRows, rowsFrom, RowTable}
+use Rattle.lists.specs.Tables.{lists, listAt, ListAt, entryPlaces, rowPlaces, markAt, admissionIn, AdmissionTable, Admits, Requirement, requirementOf, freeRow, requirementIn, endOfRows, requirementsFrom, RowTable, missingAmong}
 
 -- ---- what holds at each number below n, as one equation
 
@@ -61,14 +61,18 @@ admission-rule table e = record {
       same-below entryPlaces (saidBy table n) (wanted n) list entry below ∙ ap (λ (g : Grammar). admissionAt g entry) (at .is);
 }
 
-abbrev pub rowsIn : List ℕ → ℕ → List Row
-rowsIn table n = rowsFrom rowPlaces table (n * rowPlaces)
+abbrev pub requirementsIn : List ℕ → ℕ → List Requirement
+requirementsIn table n = requirementsFrom rowPlaces table (n * rowPlaces)
 
-abbrev pub rowsAt : ℕ → List Row
-rowsAt n = rowsOf (listAt n)
+abbrev pub requirementsAt : ℕ → List Requirement
+requirementsAt n = map requirementOf (rowsOf (listAt n))
 
-pub row-rule : (table : List ℕ) → valuesBelow (length lists) (rowsIn table) ≡ valuesBelow (length lists) rowsAt → RowTable table
-row-rule table e = record { rule = λ g n at. same-below (length lists) (rowsIn table) rowsAt e n (at .below) ∙ ap rowsOf (at .is) }
+pub row-rule : (table : List ℕ) → valuesBelow (length lists) (requirementsIn table) ≡ valuesBelow (length lists) requirementsAt → RowTable table
+row-rule table e = record {
+  rule = λ g n at.
+      same-below (length lists) (requirementsIn table) requirementsAt e n (at .below)
+      ∙ ap (λ (g : Grammar). map requirementOf (rowsOf g)) (at .is);
+}
 
 -- ---- what a number says
 
@@ -78,17 +82,6 @@ mark-other zero h = absurd (h .0 .0 .1 refl)
 mark-other (suc zero) h = absurd (h .0 .1 refl)
 mark-other (suc (suc zero)) h = absurd (h .1 refl)
 mark-other (suc (suc (suc n))) h = refl
-
-pub mark-required : (n : ℕ) → n < 2 → isRequired (markAt n) ≡ true
-mark-required zero h = refl
-mark-required (suc zero) h = refl
-mark-required (suc (suc n)) h = absurd (omega arith)
-
-pub mark-free : (n : ℕ) → 2 ≤ n → isRequired (markAt n) ≡ false
-mark-free zero h = absurd (omega arith)
-mark-free (suc zero) h = absurd (omega arith)
-mark-free (suc (suc zero)) h = refl
-mark-free (suc (suc (suc n))) h = refl
 
 row-below : (number row : ℕ) (mark : Mark) (none : Bool) → leb rowPlaces (number % 32) ≡ none
     → cond none NoRow (ByRow (number % 32) (markAt (number / 32))) ≡ ByRow row mark → row < rowPlaces
@@ -116,40 +109,48 @@ admits-none g entry h = record {
 
 -- ---- the first missing row
 
+-- what is required of rows is what they ask for
+among-rows : (i : ℕ) (rows : List Row) (counts : List ℕ) (end : ℕ)
+    → missingAmong i (map requirementOf rows) counts end ≡ missingFrom i rows counts end
+unfolding missingAmong missingFrom
+among-rows i [] counts end = refl
+among-rows i (r ∷ rs) counts end = rw (among-rows (i + 1) rs counts end)
+
 module _ (table counts : List ℕ) (end place : ℕ) where
   -- among the rows that stand from a place on, the k-th and those behind it
   abbrev pub missingIn : ℕ → Outcome
-  missingIn k = missingFrom k (rowsFrom (rowPlaces - k) table (place + k)) counts end
+  missingIn k = missingAmong k (requirementsFrom (rowPlaces - k) table (place + k)) counts end
 
   abbrev number : ℕ → ℕ
   number k = getD table (place + k) 0
 
-  rows-next : (k : ℕ) → k < rowPlaces → rowsFrom (rowPlaces - k) table (place + k)
-      ≡ cond (eqb (number k) endOfRows) [] (rowIn (number k) ∷ rowsFrom (rowPlaces - (k + 1)) table (place + (k + 1)))
-  unfolding rowsFrom
+  rows-next : (k : ℕ) → k < rowPlaces → requirementsFrom (rowPlaces - k) table (place + k)
+      ≡ cond (eqb (number k) endOfRows) []
+      (requirementIn (number k) ∷ requirementsFrom (rowPlaces - (k + 1)) table (place + (k + 1)))
+  unfolding requirementsFrom
   rows-next k h =
       let e : rowPlaces - k ≡ suc (rowPlaces - (k + 1)) = omega arith in
       let p : place + (k + 1) ≡ place + k + 1 = omega arith in
       rw (e, p)
 
   pub missing-end : (k : ℕ) → k < rowPlaces → number k ≡ endOfRows → missingIn k ≡ Pass
-  unfolding missingFrom
+  unfolding missingAmong
   missing-end k h e = rw (rows-next k h, eq-eqb (number k) endOfRows e)
 
   -- `here` says that the row at the place must be met, and was not
   pub missing-next : (k : ℕ) → k < rowPlaces → (number k ≡ endOfRows → ⊥) → (here : Bool)
-      → (isRequired (markIn (number k)) && eqb (getD counts k 0) 0) ≡ here
+      → (ltb (number k) freeRow && eqb (getD counts k 0) 0) ≡ here
       → missingIn k
       ≡ refuseIf here (refused 5005 end (vendorOf dictionary (number k % 64)) (codeOf dictionary (number k % 64))) (missingIn (k + 1))
-  unfolding missingFrom rowIn
+  unfolding missingAmong requirementIn
   missing-next k h d here e = rw (rows-next k h, ne-eqb (number k) endOfRows d, e)
 
   pub missing-past : (k : ℕ) → rowPlaces ≤ k → missingIn k ≡ Pass
-  unfolding missingFrom rowsFrom
+  unfolding missingAmong requirementsFrom
   missing-past k h =
       let e : rowPlaces - k ≡ 0 = omega arith in
       rw e
 
   -- from a list's own place on
   pub missing-first : RowTable table → (g : Grammar) (n : ℕ) → ListAt g n → place ≡ n * rowPlaces → missingIn 0 ≡ missing g counts end
-  missing-first is g n at e = rw (add-zero place, e, is .rule g n at)
+  missing-first is g n at e = rw (add-zero place, e, is .rule g n at) (among-rows 0 (rowsOf g) counts end)

@@ -2,17 +2,21 @@
 -- all lists at once.
 use mathlib.Core.Path.{_≡_}
 use Prim.Native.Nat.{ℕ, zero, suc, _+_, _*_, _/_, _%_, _≤_, _<_}
-use mathlib.Core.List.{List, [], _∷_}
-use mathlib.Core.Bool.{cond}
+use mathlib.Core.List.{List, [], _∷_, map}
+use mathlib.Core.Bool.{Bool, cond, _&&_}
 use lib.ListN.{length, getD}
-use lib.Dec.{eqb, leb}
+use lib.Dec.{eqb, leb, ltb}
 use Rattle.rules.specs.declared.Mark.{Mark}
 use Rattle.rules.specs.declared.Mark.the-variants.{First, Once, AtMostOnce, AnyNumber}
 use Rattle.rules.specs.declared.Grammar.{Grammar}
 use Rattle.rules.specs.declared.Grammar.the-variants.{Request, Answer, VendorSpecificApplicationId, ExperimentalResult, ProxyInfo, SupportedFeatures, TimeWindow, TransferPolicy}
 use Rattle.rules.specs.declared.Admission.{Admission}
 use Rattle.rules.specs.declared.Admission.the-variants.{ByRow, NoRow}
+use Rattle.rules.specs.declared.Outcome.{Outcome}
+use Rattle.rules.specs.declared.Outcome.the-variants.{Pass}
+use Rattle.rules.specs.Verdict.{refused, refuseIf}
 use Rattle.rules.specs.Rows.{Row, rowsOf}
+use Rattle.rules.specs.RowChecks.{isRequired}
 use Rattle.rules.specs.Dictionary.{dictionary}
 use Rattle.rules.specs.Walk.{mostAvps}
 use Rattle.dictionary.specs.Entries.{vendorOf, codeOf}
@@ -68,28 +72,48 @@ pub record Admits (g : Grammar) (entry : ℕ) (r : Admission) : Type 0 where
 
 -- ---- the table of the rows in the printed order
 
--- a number is so many times a mark, and an entry
-abbrev pub rowMark : ℕ
-rowMark = 64
+-- what a missing row goes by: the AVP that it names, and whether it must be met
+pub record Requirement : Type 0 where
+  pub vendor : ℕ
+  pub code : ℕ
+  pub required : Bool
 
-abbrev pub markIn : ℕ → Mark
-markIn number = markAt (number / rowMark)
+abbrev pub requirementOf : Row → Requirement
+requirementOf r = record { vendor = r .vendor; code = r .code; required = isRequired (r .mark) }
 
-unfoldable pub rowIn : ℕ → Row
-rowIn number = record { vendor = vendorOf dictionary (number % rowMark); code = codeOf dictionary (number % rowMark); mark = markIn number }
+-- a number is an entry, and 64 with it where the row need not be met
+abbrev pub freeRow : ℕ
+freeRow = 64
+
+unfoldable pub requirementIn : ℕ → Requirement
+requirementIn number =
+    record {
+      vendor = vendorOf dictionary (number % freeRow);
+      code = codeOf dictionary (number % freeRow);
+      required = ltb number freeRow;
+    }
 
 -- behind the last row of a list
 abbrev pub endOfRows : ℕ
 endOfRows = 255
 
 -- the rows that stand at n places, up to the end
-unfoldable pub rowsFrom : ℕ → List ℕ → ℕ → List Row
-rowsFrom zero table place = []
-rowsFrom (suc n) table place =
-    cond (eqb (getD table place 0) endOfRows) [] (rowIn (getD table place 0) ∷ rowsFrom n table (place + 1))
+unfoldable pub requirementsFrom : ℕ → List ℕ → ℕ → List Requirement
+requirementsFrom zero table place = []
+requirementsFrom (suc n) table place =
+    cond (eqb (getD table place 0) endOfRows) []
+    (requirementIn (getD table place 0) ∷ requirementsFrom n table (place + 1))
 
 pub record RowTable (table : List ℕ) : Type 0 where
-  pub rule : (g : Grammar) (n : ℕ) → ListAt g n → rowsFrom rowPlaces table (n * rowPlaces) ≡ rowsOf g
+  pub rule : (g : Grammar) (n : ℕ) → ListAt g n
+      → requirementsFrom rowPlaces table (n * rowPlaces) ≡ map requirementOf (rowsOf g)
+
+-- the first missing one, counted from i
+unfoldable pub missingAmong : ℕ → List Requirement → List ℕ → ℕ → Outcome
+missingAmong i [] counts end = Pass
+missingAmong i (q ∷ qs) counts end =
+    refuseIf (q .required && eqb (getD counts i 0) 0) (refused 5005 end (q .vendor) (q .code))
+    (missingAmong (i + 1) qs counts end)
 
 -- ---- what the checks of lists are lent: positions that a log has, and the two right tables
 

@@ -1,9 +1,9 @@
 // The rows of a list that must be met (01, Order of checks, Rows).
 ghost use mathlib.Core.Path.{_≡_};
 ghost use mathlib.Core.Bool.{_&&_};
-ghost use lib.Dec.{eqb};
-ghost use Rattle.rules.specs.RowChecks.{isRequired, missing};
-ghost use Rattle.lists.specs.Tables.{markIn, RowTable};
+ghost use lib.Dec.{eqb, ltb};
+ghost use Rattle.rules.specs.RowChecks.{missing};
+ghost use Rattle.lists.specs.Tables.{freeRow, RowTable};
 use crate::places;
 use crate::row_table;
 use rules::Grammar;
@@ -11,9 +11,9 @@ use rules::Outcome;
 
 // Whether a row, by its number in the table, is missing where it was met so often.
 fn is_missing(number: u8, count: u16) -> bool
-    ensures { λ r. ⌜ r ≡ (isRequired (markIn number) && eqb count 0) ⌝ }
+    ensures { λ r. ⌜ r ≡ (ltb number freeRow && eqb count 0) ⌝ }
 {
-    if row_table::AT_MOST_ONCE <= number {
+    if row_table::FREE <= number {
         return false;
     }
     count == 0
@@ -37,7 +37,7 @@ pub(crate) fn missing_row(
             return Outcome::Pass;
         }
         if is_missing(number, counts[k]) {
-            let entry = number % row_table::MARK;
+            let entry = number % row_table::FREE;
             return avp::refusal(
                 5005,
                 end,

@@ -1,21 +1,22 @@
 // 01, Rows, in the printed order for all lists: at the place of a list and a row stands the entry that the row names,
-// with its mark. As `admission_table`, it is made once and lent.
+// with what its mark asks for. As `admission_table`, it is made once and lent.
 ghost use Rattle.lists.specs.Tables.{RowTable};
 use crate::places;
 use dictionary::kinds;
 
 pub(crate) const NUMBERS: usize = places::LISTS * places::ROW_PLACES;
 
-// The marks, multiples of `MARK`; from the third on a row need not be met.
-pub(crate) const MARK: u8 = 64;
+// With an entry where its row need not be met.
+pub(crate) const FREE: u8 = 64;
 
+// The marks.
 const FIRST: u8 = 0;
 
-const ONCE: u8 = MARK;
+const ONCE: u8 = 0;
 
-pub(crate) const AT_MOST_ONCE: u8 = 2 * MARK;
+const AT_MOST_ONCE: u8 = FREE;
 
-const ANY_NUMBER: u8 = 3 * MARK;
+const ANY_NUMBER: u8 = FREE;
 
 // Behind the last row of a list.
 pub(crate) const END: u8 = 255;
