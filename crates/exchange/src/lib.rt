@@ -18,7 +18,8 @@ mod request;
 mod search;
 pub mod window;
 
-// The rules of a request or of an answer; `number` is how many policies there are, `policies` what is said of each.
+// The rules of a request, of an answer, or none; `number` is how many policies there are, `policies` what is said of
+// each.
 fn by_command(
     rules: ExchangeRules,
     s: &[u8],
@@ -37,6 +38,7 @@ fn by_command(
         ExchangeRules::OfAnswer => {
             answer::answer_outcome(log, firsts, count, end, number, policies)
         }
+        ExchangeRules::WindowsAlone => Outcome::Pass,
     }
 }
 

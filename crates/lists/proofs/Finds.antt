@@ -14,7 +14,7 @@ use Rattle.rules.specs.declared.Found.the-variants.{At, Nothing}
 use Rattle.rules.specs.declared.Admission.{Admission}
 use Rattle.rules.specs.declared.Admission.the-variants.{ByRow, NoRow}
 use Rattle.rules.specs.declared.Grammar.{Grammar}
-use Rattle.rules.specs.declared.Grammar.the-variants.{Request, Answer, VendorSpecificApplicationId, ExperimentalResult}
+use Rattle.rules.specs.declared.Grammar.the-variants.{Request, Answer, ErrorAnswer, VendorSpecificApplicationId, ExperimentalResult}
 use Rattle.rules.specs.declared.Grammar.the-variants.{ProxyInfo, SupportedFeatures, TimeWindow, TransferPolicy}
 use Rattle.rules.specs.Rows.{Row, rowsOf}
 use Rattle.rules.specs.Walk.{mostAvps}
@@ -137,6 +137,7 @@ rows-known : (g : Grammar) → T (allKnown dictionary (rowsOf g))
 unfolding rowsOf dictionary find
 rows-known Request = tt
 rows-known Answer = tt
+rows-known ErrorAnswer = tt
 rows-known VendorSpecificApplicationId = tt
 rows-known ExperimentalResult = tt
 rows-known ProxyInfo = tt

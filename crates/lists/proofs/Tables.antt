@@ -77,11 +77,12 @@ row-rule table e = record {
 -- ---- what a number says
 
 -- the arm `_` of a `match` on a mark's number
-pub mark-other : (n : ℕ) → Absent (2 ∷ 1 ∷ 0 ∷ []) n → AnyNumber ≡ markAt n
-mark-other zero h = absurd (h .0 .0 .1 refl)
-mark-other (suc zero) h = absurd (h .0 .1 refl)
-mark-other (suc (suc zero)) h = absurd (h .1 refl)
-mark-other (suc (suc (suc n))) h = refl
+pub mark-other : (n : ℕ) → Absent (3 ∷ 2 ∷ 1 ∷ 0 ∷ []) n → AnyNumber ≡ markAt n
+mark-other zero h = absurd (h .0 .0 .0 .1 refl)
+mark-other (suc zero) h = absurd (h .0 .0 .1 refl)
+mark-other (suc (suc zero)) h = absurd (h .0 .1 refl)
+mark-other (suc (suc (suc zero))) h = absurd (h .1 refl)
+mark-other (suc (suc (suc (suc n)))) h = refl
 
 row-below : (number row : ℕ) (mark : Mark) (none : Bool) → leb rowPlaces (number % 32) ≡ none
     → cond none NoRow (ByRow (number % 32) (markAt (number / 32))) ≡ ByRow row mark → row < rowPlaces

@@ -7,9 +7,9 @@ use mathlib.Core.Bool.{Bool, cond, _&&_}
 use lib.ListN.{length, getD}
 use lib.Dec.{eqb, leb, ltb}
 use Rattle.rules.specs.declared.Mark.{Mark}
-use Rattle.rules.specs.declared.Mark.the-variants.{First, Once, AtMostOnce, AnyNumber}
+use Rattle.rules.specs.declared.Mark.the-variants.{First, FirstIfPresent, Once, AtMostOnce, AnyNumber}
 use Rattle.rules.specs.declared.Grammar.{Grammar}
-use Rattle.rules.specs.declared.Grammar.the-variants.{Request, Answer, VendorSpecificApplicationId, ExperimentalResult, ProxyInfo, SupportedFeatures, TimeWindow, TransferPolicy}
+use Rattle.rules.specs.declared.Grammar.the-variants.{Request, Answer, ErrorAnswer, VendorSpecificApplicationId, ExperimentalResult, ProxyInfo, SupportedFeatures, TimeWindow, TransferPolicy}
 use Rattle.rules.specs.declared.Admission.{Admission}
 use Rattle.rules.specs.declared.Admission.the-variants.{ByRow, NoRow}
 use Rattle.rules.specs.declared.Outcome.{Outcome}
@@ -25,8 +25,8 @@ use Rattle.lists.specs.ByLog.{admissionAt}
 -- the lists in the order of the tables
 abbrev pub lists : List Grammar
 lists =
-    Request ∷ Answer ∷ VendorSpecificApplicationId ∷ ExperimentalResult ∷ ProxyInfo ∷ SupportedFeatures ∷ TimeWindow ∷
-    TransferPolicy ∷ []
+    Request ∷ Answer ∷ ErrorAnswer ∷ VendorSpecificApplicationId ∷ ExperimentalResult ∷ ProxyInfo ∷ SupportedFeatures ∷
+    TimeWindow ∷ TransferPolicy ∷ []
 
 abbrev pub listAt : ℕ → Grammar
 listAt n = getD lists n Request
@@ -46,9 +46,10 @@ rowPlaces = 24
 -- a mark by its number
 abbrev pub markAt : ℕ → Mark
 markAt zero = First
-markAt (suc zero) = Once
-markAt (suc (suc zero)) = AtMostOnce
-markAt (suc (suc (suc n))) = AnyNumber
+markAt (suc zero) = FirstIfPresent
+markAt (suc (suc zero)) = Once
+markAt (suc (suc (suc zero))) = AtMostOnce
+markAt (suc (suc (suc (suc n)))) = AnyNumber
 
 -- ---- the table over the entries
 

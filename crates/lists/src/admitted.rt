@@ -13,6 +13,8 @@ use rules::Mark;
 // The marks by their numbers, that of any number being the last.
 const FIRST: u8 = admission_table::FIRST / admission_table::MARK;
 
+const FIRST_IF_PRESENT: u8 = admission_table::FIRST_IF_PRESENT / admission_table::MARK;
+
 const ONCE: u8 = admission_table::ONCE / admission_table::MARK;
 
 const AT_MOST_ONCE: u8 = admission_table::AT_MOST_ONCE / admission_table::MARK;
@@ -22,6 +24,7 @@ fn mark_of(number: u8) -> Mark
 {
     match number {
         FIRST => Mark::First,
+        FIRST_IF_PRESENT => Mark::FirstIfPresent,
         ONCE => Mark::Once,
         AT_MOST_ONCE => Mark::AtMostOnce,
         _ => Mark::AnyNumber,
@@ -65,6 +68,7 @@ pub(crate) fn admits_others(grammar: Grammar) -> bool
     match grammar {
         Grammar::Request => true,
         Grammar::Answer => true,
+        Grammar::ErrorAnswer => true,
         Grammar::VendorSpecificApplicationId => false,
         Grammar::ExperimentalResult => false,
         Grammar::ProxyInfo => true,

@@ -36,6 +36,7 @@ pub(crate) fn by_mark(mark: Mark, met: bool, first: bool, a: Avp) -> Outcome
 {
     match mark {
         Mark::First => first_and_once(met, first, a),
+        Mark::FirstIfPresent => first_and_once(met, first, a),
         Mark::Once => not_twice(met, a),
         Mark::AtMostOnce => not_twice(met, a),
         Mark::AnyNumber => Outcome::Pass,

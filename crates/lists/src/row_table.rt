@@ -12,6 +12,8 @@ pub(crate) const FREE: u8 = 64;
 // The marks.
 const FIRST: u8 = 0;
 
+const FIRST_IF_PRESENT: u8 = FREE;
+
 const ONCE: u8 = 0;
 
 const AT_MOST_ONCE: u8 = FREE;
@@ -71,6 +73,31 @@ const TABLE: [u8; NUMBERS] = [
     ANY_NUMBER + kinds::RouteRecord::ENTRY,
     ANY_NUMBER + kinds::SupportedFeatures::ENTRY,
     ANY_NUMBER + kinds::Load::ENTRY,
+    END,
+    // an answer with E
+    FIRST_IF_PRESENT + kinds::SessionId::ENTRY,
+    ONCE + kinds::OriginHost::ENTRY,
+    ONCE + kinds::OriginRealm::ENTRY,
+    ONCE + kinds::ResultCode::ENTRY,
+    AT_MOST_ONCE + kinds::OriginStateId::ENTRY,
+    AT_MOST_ONCE + kinds::ErrorMessage::ENTRY,
+    AT_MOST_ONCE + kinds::ErrorReportingHost::ENTRY,
+    AT_MOST_ONCE + kinds::FailedAvp::ENTRY,
+    AT_MOST_ONCE + kinds::ExperimentalResult::ENTRY,
+    ANY_NUMBER + kinds::ProxyInfo::ENTRY,
+    END,
+    END,
+    END,
+    END,
+    END,
+    END,
+    END,
+    END,
+    END,
+    END,
+    END,
+    END,
+    END,
     END,
     // 260 Vendor-Specific-Application-Id
     ONCE + kinds::VendorId::ENTRY,

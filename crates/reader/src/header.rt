@@ -75,20 +75,20 @@ fn is_error_request(flags: u8) -> bool
     false
 }
 
-// R and E both set, or P clear; then E set.
+// R and E both set, or P clear; in an answer with E, P may be clear (02, [1]).
 fn flags_outcome(flags: u8) -> Outcome
     ensures { λ r. ⌜ r ≡ flagsOutcome flags ⌝ }
 {
     if is_error_request(flags) {
         return refusal(3008, 4);
     }
-    if !has_flag(flags, flags::PROXIABLE) {
-        return refusal(3008, 4);
+    if has_flag(flags, flags::PROXIABLE) {
+        return Outcome::Pass;
     }
     if has_flag(flags, flags::ERROR) {
-        return refusal(7005, 4);
+        return Outcome::Pass;
     }
-    Outcome::Pass
+    refusal(3008, 4)
 }
 
 pub(crate) fn header_outcome(s: &[u8]) -> Outcome
@@ -113,6 +113,12 @@ pub(crate) fn command_rules(flags: u8) -> CommandRules
         return CommandRules {
             rows: Grammar::Request,
             exchange: ExchangeRules::OfRequest,
+        };
+    }
+    if has_flag(flags, flags::ERROR) {
+        return CommandRules {
+            rows: Grammar::ErrorAnswer,
+            exchange: ExchangeRules::WindowsAlone,
         };
     }
     CommandRules {

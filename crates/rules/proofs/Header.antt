@@ -1,6 +1,6 @@
 -- Laws of the header's checks, case by case, and what a header that passes tells.
 use mathlib.Core.Path.{_≡_, sym, _∙_}
-use mathlib.Core.Bool.{true, false, not, _&&_, _||_}
+use mathlib.Core.Bool.{true, false, not, _&&_, _||_, and-true}
 use mathlib.Core.List.{List}
 use Prim.Native.Nat.{ℕ, _%_, _≤_, _<_}
 use native.Mathlib.Omega.{arith}
@@ -77,18 +77,20 @@ module _ (flags : ℕ) where
   flags-error-request h = rw h
 
   module _ (one : (isRequest flags && isError flags) ≡ false) where
-    pub flags-not-proxiable : isProxiable flags ≡ false → flagsOutcome flags ≡ refused 3008 4 0 0
+    pub flags-proxiable : isProxiable flags ≡ true → flagsOutcome flags ≡ Pass
     unfolding flagsOutcome
-    flags-not-proxiable h = rw (one, h)
+    flags-proxiable h = rw (one, h)
 
-    module _ (proxiable : isProxiable flags ≡ true) where
-      pub flags-error : isError flags ≡ true → flagsOutcome flags ≡ refused 7005 4 0 0
+    module _ (clear : isProxiable flags ≡ false) where
+      pub flags-error-answer : isError flags ≡ true → flagsOutcome flags ≡ Pass
       unfolding flagsOutcome
-      flags-error h = rw (one, proxiable, h)
+      flags-error-answer h =
+          let answer : isRequest flags ≡ false = sym (and-true (isRequest flags)) ∙ rw h at one in
+          rw (h, answer, clear)
 
-      pub flags-pass : isError flags ≡ false → flagsOutcome flags ≡ Pass
+      pub flags-not-proxiable : isError flags ≡ false → flagsOutcome flags ≡ refused 3008 4 0 0
       unfolding flagsOutcome
-      flags-pass h = rw (one, proxiable, h)
+      flags-not-proxiable h = rw (one, clear, h)
 
 -- ---- what a header that passes tells
 

@@ -8,11 +8,11 @@ use Rattle.rules.specs.declared.Avp.{Avp}
 use Rattle.rules.specs.declared.Verdict.{Verdict}
 use Rattle.rules.specs.declared.Outcome.{Outcome}
 use Rattle.rules.specs.declared.Outcome.the-variants.{Refused}
-use Rattle.rules.specs.declared.Grammar.the-variants.{Request, Answer}
-use Rattle.rules.specs.declared.ExchangeRules.the-variants.{OfRequest, OfAnswer}
+use Rattle.rules.specs.declared.Grammar.the-variants.{Request, Answer, ErrorAnswer}
+use Rattle.rules.specs.declared.ExchangeRules.the-variants.{OfRequest, OfAnswer, WindowsAlone}
 use Rattle.rules.specs.declared.CommandRules.{CommandRules}
 use Rattle.rules.specs.Verdict.{orElse, verdictOf}
-use Rattle.rules.specs.Header.{headerSize, headerOutcome, commandFlags, isRequest}
+use Rattle.rules.specs.Header.{headerSize, headerOutcome, commandFlags, isRequest, isError}
 use Rattle.rules.specs.Dictionary.{Entry, dictionary}
 use Rattle.rules.specs.Walk.{Standing, Walked, whole, stopped, walkList}
 use Rattle.rules.specs.RowChecks.{rowsOutcome}
@@ -25,9 +25,13 @@ ofRequest = record { rows = Request; exchange = OfRequest }
 abbrev pub ofAnswer : CommandRules
 ofAnswer = record { rows = Answer; exchange = OfAnswer }
 
--- what a command is judged by, by its flags: R chooses
+-- 02, [1]: an answer with E, by the rows of the general form, and by the window rule alone
+abbrev pub ofErrorAnswer : CommandRules
+ofErrorAnswer = record { rows = ErrorAnswer; exchange = WindowsAlone }
+
+-- what a command is judged by, by its flags: R chooses, then E
 unfoldable pub rulesBy : ℕ → CommandRules
-rulesBy flags = cond (isRequest flags) ofRequest ofAnswer
+rulesBy flags = cond (isRequest flags) ofRequest (cond (isError flags) ofErrorAnswer ofAnswer)
 
 -- by its header
 abbrev pub commandRules : List ℕ → CommandRules

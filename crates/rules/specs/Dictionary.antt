@@ -13,7 +13,7 @@ use Rattle.rules.specs.declared.Members.{Members}
 use Rattle.rules.specs.declared.Members.the-variants.{Under, NoMembers}
 use Rattle.rules.specs.declared.Grammar.{Grammar}
 use Rattle.rules.specs.Header.{codeBackgroundDataTransfer, vendor3GPP}
-use Rattle.rules.specs.declared.Grammar.the-variants.{Request, Answer, VendorSpecificApplicationId, ExperimentalResult, ProxyInfo, SupportedFeatures, TimeWindow, TransferPolicy}
+use Rattle.rules.specs.declared.Grammar.the-variants.{Request, Answer, ErrorAnswer, VendorSpecificApplicationId, ExperimentalResult, ProxyInfo, SupportedFeatures, TimeWindow, TransferPolicy}
 
 -- an entry: the name, whether M must be set, and the form of the data
 pub record Entry : Type 0 where
@@ -107,6 +107,7 @@ fitsWidth Unknown length = true
 abbrev pub listNumber : Grammar → ℕ
 listNumber Request = codeBackgroundDataTransfer
 listNumber Answer = codeBackgroundDataTransfer
+listNumber ErrorAnswer = codeBackgroundDataTransfer
 listNumber VendorSpecificApplicationId = 260
 listNumber ExperimentalResult = 297
 listNumber ProxyInfo = 284

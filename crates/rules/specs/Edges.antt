@@ -100,7 +100,8 @@ cases =
     ∷ case (header 1 24 0xC0 applicationNt) 5015 1 0 0
     ∷ case (header 1 20 0xC0 16777346) 3007 8 0 0
     ∷ case (header 1 20 0xE0 applicationNt) 3008 4 0 0
-    ∷ case (header 1 20 0x60 applicationNt) 7005 4 0 0
+    -- 01 has 7005 at 4 here; 02, [1] reads an answer with E by the general form, whose first missing row is 264
+    ∷ case (header 1 20 0x60 applicationNt) 5005 20 0 264
     ∷ case (requestHeader 28 ++ avp 263 0x40 7 []) 5014 20 0 263
     ∷ case (requestHeader 28 ++ avp 263 0x41 8 []) 3009 20 0 263
     ∷ case (requestHeader 28 ++ avp 9999 0x40 8 []) 5001 20 0 9999

@@ -10,7 +10,7 @@ use Rattle.rules.specs.declared.Avp.{Avp}
 use Rattle.rules.specs.declared.Outcome.{Outcome}
 use Rattle.rules.specs.declared.Outcome.the-variants.{Pass}
 use Rattle.rules.specs.declared.ExchangeRules.{ExchangeRules}
-use Rattle.rules.specs.declared.ExchangeRules.the-variants.{OfRequest, OfAnswer}
+use Rattle.rules.specs.declared.ExchangeRules.the-variants.{OfRequest, OfAnswer, WindowsAlone}
 use Rattle.rules.specs.declared.Found.{Found}
 use Rattle.rules.specs.declared.Found.the-variants.{At, Nothing}
 use Rattle.rules.specs.Octets.{numberAt}
@@ -157,10 +157,12 @@ eachWindow xs s i [] = Pass
 eachWindow xs s i (a ∷ rest) =
     orElse (windowAt xs s i a) (eachWindow xs s (i + 1) rest)
 
--- the rules of a request or of an answer; `number` is how many policies there are, `policies` what is said of each
+-- the rules of a request, of an answer, or none; `number` is how many policies there are, `policies` what is said of
+-- each
 abbrev pub byCommand : (ℕ → ℕ → Found) → ExchangeRules → List Avp → List ℕ → ℕ → ℕ → Outcome → Outcome
 byCommand find OfRequest xs s end number policies = requestOutcome find xs s end
 byCommand find OfAnswer xs s end number policies = answerOutcome find xs end number policies
+byCommand find WindowsAlone xs s end number policies = Pass
 
 -- those rules, then what is said of the windows
 unfoldable pub exchangeBy : (ℕ → ℕ → Found) → ExchangeRules → List Avp → List ℕ → ℕ → ℕ → Outcome → Outcome → Outcome

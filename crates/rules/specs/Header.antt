@@ -79,12 +79,12 @@ applicationOutcome s =
     (refuseIf (not (eqb (commandCode s) codeBackgroundDataTransfer)) (refused 3001 5 0 0)
     Pass)
 
--- R and E both set, or P clear; then E set
+-- R and E both set; or P clear, without E or with R (02, [1]): in an answer with E it may be clear
 unfoldable pub flagsOutcome : ℕ → Outcome
 flagsOutcome flags =
-    refuseIf (isRequest flags && isError flags || not (isProxiable flags)) (refused 3008 4 0 0)
-    (refuseIf (isError flags) (refused 7005 4 0 0)
-    Pass)
+    refuseIf (isRequest flags && isError flags || not (isProxiable flags) && (not (isError flags) || isRequest flags))
+    (refused 3008 4 0 0)
+    Pass
 
 -- the header's checks together
 unfoldable pub headerOutcome : List ℕ → Outcome

@@ -41,11 +41,10 @@ fitsTable v =
     && placed 3007 (8 ∷ []) v
     && placed 3001 (5 ∷ []) v
     && placed 3008 (4 ∷ []) v
-    && placed 7005 (4 ∷ []) v
     && unnamed 7002 v
 
 -- the checks over the AVPs of a command's walk, in 01's order: the rows of the command's own list, those of each group,
--- the exchange rules of the request or the answer, the windows
+-- the exchange rules of the request or the answer, which an answer with E has not, the windows
 abbrev pub ownRows : List ℕ → List Avp → Outcome
 ownRows c xs = listOutcome (commandRules c .rows) 1 (length c) xs
 

@@ -7,7 +7,7 @@ use Prim.Native.Nat.{ℕ, _≤_}
 use lib.ListN.{length}
 use Rattle.rules.specs.declared.Avp.{Avp}
 use Rattle.rules.specs.declared.Outcome.the-variants.{Pass}
-use Rattle.rules.specs.Header.{vendor3GPP, headerOutcome, commandFlags, isRequest}
+use Rattle.rules.specs.Header.{vendor3GPP, headerOutcome, commandFlags, isRequest, isError}
 use Rattle.rules.specs.Walk.{whole}
 use Rattle.rules.specs.Search.{first, howMany, NoAvp}
 use Rattle.rules.specs.Exchange.{resultOutcome}
@@ -15,13 +15,18 @@ use Rattle.rules.specs.Command.{walkOf}
 use Rattle.rules.specs.Order.{ownRows, groupRows}
 use Rattle.rules.specs.Volumes.{Has}
 
--- an answer that passes all checks before those of its policies, with at least so many of them
+-- an answer without E
+pub record IsAnswer (c : List ℕ) : Type 0 where
+  pub not-request : isRequest (commandFlags c) ≡ false
+  pub without-error : isError (commandFlags c) ≡ false
+
+-- one that passes all checks before those of its policies, with at least so many of them
 pub record Offers (c : List ℕ) (xs : List Avp) (least : ℕ) : Type 0 where
   pub header : headerOutcome c ≡ Pass
   pub walk : walkOf c ≡ whole xs
   pub own : ownRows c xs ≡ Pass
   pub groups : groupRows c xs ≡ Pass
-  pub answer : isRequest (commandFlags c) ≡ false
+  pub answer : IsAnswer c
   pub result : resultOutcome (first xs) xs (length c) ≡ Pass
   pub policies : least ≤ howMany 1 vendor3GPP 4207 xs
 

@@ -11,7 +11,7 @@ use Rattle.rules.specs.declared.Outcome.the-variants.{Pass}
 use Rattle.rules.specs.declared.Members.{Members}
 use Rattle.rules.specs.declared.Members.the-variants.{Under, NoMembers}
 use Rattle.rules.specs.declared.Mark.{Mark}
-use Rattle.rules.specs.declared.Mark.the-variants.{First, Once, AtMostOnce, AnyNumber}
+use Rattle.rules.specs.declared.Mark.the-variants.{First, FirstIfPresent, Once, AtMostOnce, AnyNumber}
 use Rattle.rules.specs.declared.Admission.{Admission}
 use Rattle.rules.specs.declared.Admission.the-variants.{ByRow, NoRow}
 use Rattle.rules.specs.declared.Grammar.{Grammar}
@@ -51,6 +51,7 @@ memberFault number a = refused number (placeOf a) (a .vendor) (a .code)
 -- a member that has a row: `met` says that the row was met before, `first` that the member is the list's first
 abbrev pub byMark : Mark → Bool → Bool → Avp → Outcome
 byMark First met first a = cond met (memberFault 5009 a) (cond first Pass (memberFault 5008 a))
+byMark FirstIfPresent met first a = cond met (memberFault 5009 a) (cond first Pass (memberFault 5008 a))
 byMark Once met first a = cond met (memberFault 5009 a) Pass
 byMark AtMostOnce met first a = cond met (memberFault 5009 a) Pass
 byMark AnyNumber met first a = Pass
@@ -67,6 +68,7 @@ memberOutcome g counts first a = byAdmission (admitsOthers g) counts first a (ad
 -- a row that must be met
 abbrev pub isRequired : Mark → Bool
 isRequired First = true
+isRequired FirstIfPresent = false
 isRequired Once = true
 isRequired AtMostOnce = false
 isRequired AnyNumber = false

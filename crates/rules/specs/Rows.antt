@@ -1,11 +1,11 @@
--- 01, Rows: the rows of each list, in the printed order.
+-- 01, Rows, and 02, [1]: the rows of each list, in the printed order.
 use Prim.Native.Nat.{ℕ}
 use mathlib.Core.List.{List, [], _∷_}
 use mathlib.Core.Bool.{Bool, true, false}
 use Rattle.rules.specs.declared.Mark.{Mark}
-use Rattle.rules.specs.declared.Mark.the-variants.{First, Once, AtMostOnce, AnyNumber}
+use Rattle.rules.specs.declared.Mark.the-variants.{First, FirstIfPresent, Once, AtMostOnce, AnyNumber}
 use Rattle.rules.specs.declared.Grammar.{Grammar}
-use Rattle.rules.specs.declared.Grammar.the-variants.{Request, Answer, VendorSpecificApplicationId, ExperimentalResult, ProxyInfo, SupportedFeatures, TimeWindow, TransferPolicy}
+use Rattle.rules.specs.declared.Grammar.the-variants.{Request, Answer, ErrorAnswer, VendorSpecificApplicationId, ExperimentalResult, ProxyInfo, SupportedFeatures, TimeWindow, TransferPolicy}
 use Rattle.rules.specs.Header.{vendor3GPP}
 
 -- a row: the name, and its mark
@@ -35,6 +35,10 @@ rowsOf Answer =
     plain 292 AnyNumber ∷ plain 261 AtMostOnce ∷ plain 262 AtMostOnce ∷ of3GPP 4202 AtMostOnce ∷ plain 621 AtMostOnce ∷
     plain 623 AtMostOnce ∷ of3GPP 4207 AnyNumber ∷ of3GPP 2207 AtMostOnce ∷ plain 284 AnyNumber ∷ plain 282 AnyNumber ∷
     of3GPP 628 AnyNumber ∷ plain 650 AnyNumber ∷ []
+-- 02, [1]: the general form of RFC 6733 clause 7.2
+rowsOf ErrorAnswer =
+    plain 263 FirstIfPresent ∷ plain 264 Once ∷ plain 296 Once ∷ plain 268 Once ∷ plain 278 AtMostOnce ∷
+    plain 281 AtMostOnce ∷ plain 294 AtMostOnce ∷ plain 279 AtMostOnce ∷ plain 297 AtMostOnce ∷ plain 284 AnyNumber ∷ []
 rowsOf VendorSpecificApplicationId = plain 266 Once ∷ plain 258 AtMostOnce ∷ plain 259 AtMostOnce ∷ []
 rowsOf ExperimentalResult = plain 266 Once ∷ plain 298 Once ∷ []
 rowsOf ProxyInfo = plain 280 Once ∷ plain 33 Once ∷ []
@@ -47,6 +51,7 @@ rowsOf TransferPolicy =
 unfoldable pub admitsOthers : Grammar → Bool
 admitsOthers Request = true
 admitsOthers Answer = true
+admitsOthers ErrorAnswer = true
 admitsOthers VendorSpecificApplicationId = false
 admitsOthers ExperimentalResult = false
 admitsOthers ProxyInfo = true

@@ -17,8 +17,8 @@ readerNumbers =
     ∷ 5001 ∷ 5004 ∷ 5005 ∷ 5008 ∷ 5009
     -- version, AVP length, command length
     ∷ 5011 ∷ 5014 ∷ 5015
-    -- longer than 16,384, which the writer says too; 257th AVP, group at depth 4; error answer
-    ∷ 7001 ∷ 7002 ∷ 7003 ∷ 7005 ∷ []
+    -- longer than 16,384, which the writer says too; 257th AVP, group at depth 4
+    ∷ 7001 ∷ 7002 ∷ 7003 ∷ []
 
 -- the table's numbers that the reader of a command never gives: output too short, malformed draft
 unfoldable pub writerOnlyNumbers : List ℕ

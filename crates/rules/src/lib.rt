@@ -69,10 +69,11 @@ pub struct Sought {
     pub number: usize,
 }
 
-// The lists that have rows: the two commands, and each grouped AVP that is read.
+// The lists that have rows: the request, the answer, the answer with E (02, [1]), and each grouped AVP that is read.
 pub enum Grammar {
     Request,
     Answer,
+    ErrorAnswer,
     VendorSpecificApplicationId,
     ExperimentalResult,
     ProxyInfo,
@@ -81,10 +82,12 @@ pub enum Grammar {
     TransferPolicy,
 }
 
-// The exchange rules that apply to a command: those of a request or of an answer, each with the window rule.
+// The exchange rules that apply to a command: those of a request or of an answer, each with the window rule; or the
+// window rule alone (02, [1]).
 pub enum ExchangeRules {
     OfRequest,
     OfAnswer,
+    WindowsAlone,
 }
 
 // What a command is judged by, chosen from its header: the rows of its own list, and the exchange rules.
@@ -113,9 +116,11 @@ pub enum Members {
     NoMembers,
 }
 
-// The mark of a row: ! first and once, 1 once, ? at most once, * any number.
+// The mark of a row: ! first and once, 1 once, ? at most once, * any number; and that of request [1], at most once and
+// first if present.
 pub enum Mark {
     First,
+    FirstIfPresent,
     Once,
     AtMostOnce,
     AnyNumber,

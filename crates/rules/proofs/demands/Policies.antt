@@ -1,7 +1,7 @@
 -- Request [9]: the exchange rules go by the number of policies. Which answers are refused for 4202 and for 2207, and
 -- that no other is. The claims stand in rules/specs/Policies.
 use mathlib.Core.Path.{_≡_}
-use mathlib.Core.Bool.{false, cond}
+use mathlib.Core.Bool.{cond}
 use mathlib.Core.List.{List}
 use Prim.Native.Nat.{ℕ, _≤_}
 use native.Mathlib.Omega.{arith}
@@ -11,16 +11,20 @@ use lib.ListN.{length}
 use Rattle.rules.specs.declared.Avp.{Avp}
 use Rattle.rules.specs.declared.Outcome.the-variants.{Pass}
 use Rattle.rules.specs.Verdict.{refused, verdict}
-use Rattle.rules.specs.Header.{commandFlags, isRequest}
 use Rattle.rules.specs.Search.{first, howMany}
 use Rattle.rules.specs.Exchange.{require, resultOutcome, policyNumber, policiesOutcome, eachPolicy, answerOutcome}
-use Rattle.rules.specs.Command.{rulesBy, commandVerdict}
+use Rattle.rules.specs.Command.{ofAnswer, rulesBy, commandRules, commandVerdict}
 use Rattle.rules.specs.Order.{exchange}
-use Rattle.rules.specs.Policies.{Offers, Unreferenced, Unaddressed, Equipped}
+use Rattle.rules.specs.Policies.{IsAnswer, Offers, Unreferenced, Unaddressed, Equipped}
 use Rattle.rules.specs.Volumes.{Has}
 use Rattle.rules.proofs.Walk.{by-cases}
 use Rattle.rules.proofs.demands.Found.{search-number, search-first, search-absent}
 use Rattle.rules.proofs.demands.Order.{demand-2-first-fault}
+
+-- what an answer without E is judged by
+answer-rules : (c : List ℕ) → IsAnswer c → commandRules c ≡ ofAnswer
+unfolding rulesBy
+answer-rules c a = rw (a .not-request, a .without-error)
 
 module _ (c : List ℕ) (xs : List Avp) where
   -- the number that the search tells
@@ -28,23 +32,23 @@ module _ (c : List ℕ) (xs : List Avp) where
   number-is least o = omega (arith, search-number xs 10415 4207 0, o .policies)
 
   unreferenced : Unreferenced c xs → exchange c xs ≡ refused 5005 (length c) 10415 4202
-  unfolding rulesBy answerOutcome policiesOutcome
+  unfolding answerOutcome policiesOutcome
   unreferenced u =
       let o = u .offers in
       rw (
-        o .answer,
+        answer-rules c (o .answer),
         o .result,
         le-leb 1 (policyNumber xs) (number-is 1 o),
         search-absent xs 10415 4202 .1 (u .reference),
       )
 
   unaddressed : Unaddressed c xs → exchange c xs ≡ refused 5005 (length c) 10415 2207
-  unfolding rulesBy answerOutcome policiesOutcome
+  unfolding answerOutcome policiesOutcome
   unaddressed u =
       let o = u .offers in
       let two = number-is 2 o in
       rw (
-        o .answer,
+        answer-rules c (o .answer),
         o .result,
         le-leb 1 (policyNumber xs) (omega arith),
         search-first xs 10415 4202 (u .reference .0) .1 (u .reference .1),
@@ -95,8 +99,8 @@ module _ (c : List ℕ) (xs : List Avp) where
   -- 01: nothing else is asked for by the number of policies; what is left is what each of them holds.
   -- Carried by search-number and search-first (Found).
   -- Ruled out: a reader that asks for 2207 with one policy, or for 4202 with none.
-  pub request-9-asked : isRequest (commandFlags c) ≡ false → resultOutcome (first xs) xs (length c) ≡ Pass
+  pub request-9-asked : IsAnswer c → resultOutcome (first xs) xs (length c) ≡ Pass
       → Equipped xs → exchange c xs ≡ eachPolicy xs
-  unfolding rulesBy answerOutcome policiesOutcome
+  unfolding answerOutcome policiesOutcome
   request-9-asked answer result q =
-      rw (answer, result, referenced q (length c), addressed q (length c))
+      rw (answer-rules c answer, result, referenced q (length c), addressed q (length c))

@@ -14,7 +14,7 @@ use Rattle.lists.proofs.requirements.missing_row.Statement.{statement}
 use Rattle.lists.proofs.requirements.missing_row.Tie as tie
 
 abbrev Inv-loop : tie.InvT-loop
-Inv-loop table counts end from k₀ k = (from + 24 ≤ 192) × (missingIn table counts end from k ≡ missingIn table counts end from 0)
+Inv-loop table counts end from k₀ k = (from + 24 ≤ 216) × (missingIn table counts end from k ≡ missingIn table counts end from 0)
 
 abbrev μ-loop : tie.MeasureT-loop
 μ-loop table counts end from k₀ k = 24 - k

@@ -12,9 +12,20 @@ returns : tie.Need-returns
 unfolding rulesBy
 returns c = rw (sym (c .before .has-flag .ensures) ∙ c .if1 .taken)
 
+has-flag-requires-2 : tie.Need-has-flag-requires-2
+has-flag-requires-2 c κs = search needs
+
 returns-2 : tie.Need-returns-2
 unfolding rulesBy
-returns-2 c = rw (sym (c .before .has-flag .ensures) ∙ c .if1 .left)
+returns-2 c =
+    let e = c .before in
+    rw (sym (e .before .before .has-flag .ensures) ∙ e .before .if1 .left, sym (e .has-flag2 .ensures) ∙ c .if2 .taken)
+
+returns-3 : tie.Need-returns-3
+unfolding rulesBy
+returns-3 c =
+    let e = c .before in
+    rw (sym (e .before .before .has-flag .ensures) ∙ e .before .if1 .left, sym (e .has-flag2 .ensures) ∙ c .if2 .left)
 
 pub command-rules-spec : {M : Type 1} → statement M
-command-rules-spec = tie.close (tie.spec has-flag-requires returns returns-2)
+command-rules-spec = tie.close (tie.spec has-flag-requires returns has-flag-requires-2 returns-2 returns-3)

@@ -1,8 +1,7 @@
 -- `reader::header::flags_outcome` meets its contract.
 use borrow.Author.Needs.{needs}
 use mathlib.Core.Path.{sym, _∙_}
-use borrow.Author.Tests.{not-true, not-false}
-use Rattle.rules.proofs.Header.{flags-error-request, flags-not-proxiable, flags-error, flags-pass}
+use Rattle.rules.proofs.Header.{flags-error-request, flags-proxiable, flags-error-answer, flags-not-proxiable}
 use Rattle.reader.proofs.header.flags_outcome.Statement.{statement}
 use Rattle.reader.proofs.header.flags_outcome.Tie as tie
 
@@ -20,39 +19,35 @@ returns c =
 has-flag-requires : tie.Need-has-flag-requires
 has-flag-requires c κs = search needs
 
-refusal-requires-2 : tie.Need-refusal-requires-2
-refusal-requires-2 c κs = search needs
-
 returns-2 : tie.Need-returns-2
 returns-2 c =
-    let p = c .before .before in
+    let p = c .before in
     let l = p .before in
     let r = l .before in
-    c .refusal2 .ensures
-    ∙ sym (flags-not-proxiable (r .before .args .flags) (sym (r .is-error-request .ensures) ∙ l .if1 .left) (sym (p .has-flag .ensures) ∙ not-true _ (c .before .if2 .taken)))
+    sym (flags-proxiable (r .before .args .flags) (sym (r .is-error-request .ensures) ∙ l .if1 .left) (sym (p .has-flag .ensures) ∙ c .if2 .taken))
 
 has-flag-requires-2 : tie.Need-has-flag-requires-2
 has-flag-requires-2 c κs = search needs
 
-refusal-requires-3 : tie.Need-refusal-requires-3
-refusal-requires-3 c κs = search needs
-
 returns-3 : tie.Need-returns-3
 returns-3 c =
-    let e = c .before .before in
-    let p = e .before .before in
-    let l = p .before in
-    let r = l .before in
-    c .refusal3 .ensures
-    ∙ sym (flags-error (r .before .args .flags) (sym (r .is-error-request .ensures) ∙ l .if1 .left) (sym (p .has-flag .ensures) ∙ not-false _ (e .before .if2 .left)) (sym (e .has-flag2 .ensures) ∙ c .before .if3 .taken))
-
-returns-4 : tie.Need-returns-4
-returns-4 c =
     let e = c .before in
     let p = e .before .before in
     let l = p .before in
     let r = l .before in
-    sym (flags-pass (r .before .args .flags) (sym (r .is-error-request .ensures) ∙ l .if1 .left) (sym (p .has-flag .ensures) ∙ not-false _ (e .before .if2 .left)) (sym (e .has-flag2 .ensures) ∙ c .if3 .left))
+    sym (flags-error-answer (r .before .args .flags) (sym (r .is-error-request .ensures) ∙ l .if1 .left) (sym (p .has-flag .ensures) ∙ e .before .if2 .left) (sym (e .has-flag2 .ensures) ∙ c .if3 .taken))
+
+refusal-requires-2 : tie.Need-refusal-requires-2
+refusal-requires-2 c κs = search needs
+
+returns-4 : tie.Need-returns-4
+returns-4 c =
+    let e = c .before .before in
+    let p = e .before .before in
+    let l = p .before in
+    let r = l .before in
+    c .refusal2 .ensures
+    ∙ sym (flags-not-proxiable (r .before .args .flags) (sym (r .is-error-request .ensures) ∙ l .if1 .left) (sym (p .has-flag .ensures) ∙ e .before .if2 .left) (sym (e .has-flag2 .ensures) ∙ c .before .if3 .left))
 
 pub flags-outcome-spec : {M : Type 1} → statement M
 flags-outcome-spec =
@@ -62,9 +57,8 @@ flags-outcome-spec =
     refusal-requires
     returns
     has-flag-requires
-    refusal-requires-2
     returns-2
     has-flag-requires-2
-    refusal-requires-3
     returns-3
+    refusal-requires-2
     returns-4)

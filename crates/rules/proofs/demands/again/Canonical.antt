@@ -65,10 +65,10 @@ flags-same : (f g : ℕ) → isRequest f ≡ isRequest g → isProxiable f ≡ i
 unfolding flagsOutcome
 flags-same f g r p e = rw (r, p, e)
 
--- and the choice of what a command is judged by reads R
-rules-same : (f g : ℕ) → isRequest f ≡ isRequest g → rulesBy f ≡ rulesBy g
+-- and the choice of what a command is judged by reads R and E
+rules-same : (f g : ℕ) → isRequest f ≡ isRequest g → isError f ≡ isError g → rulesBy f ≡ rulesBy g
 unfolding rulesBy
-rules-same f g r = rw r
+rules-same f g r e = rw (r, e)
 
 lists-same : (s t : List ℕ) (xs : List Avp) → length s ≡ length t → commandRules s ≡ commandRules t
     → ((rules : ExchangeRules) (end : ℕ) → exchangeOutcome rules xs s end ≡ exchangeOutcome rules xs t end)
@@ -154,7 +154,7 @@ module _ (c : List ℕ) (oct : AreOctets c) (k : AcceptedItems c) where
       let e = sym (cells-zeroed (map cellIn (k .items))) in
       let h = head-written (meaningOf c) again-writable in
       sym (lists-same c again xs (sym again-long)
-      (rules-same (commandFlags c) (commandFlags again) (sym (h .flags-are .first)))
+      (rules-same (commandFlags c) (commandFlags again) (sym (h .flags-are .first)) (sym (h .flags-are .third)))
       (exchange-same xs c again
       (numbers-again c again 10415 4203 four-4203 refl (k .items) zeros 20 f g e (k .tail) again-tail passes)
       (numbers-again c again 10415 4205 four-4205 refl (k .items) zeros 20 f g e (k .tail) again-tail passes)

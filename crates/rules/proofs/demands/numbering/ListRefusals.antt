@@ -12,12 +12,12 @@ use Rattle.rules.specs.declared.Outcome.the-variants.{Pass}
 use Rattle.rules.specs.declared.Members.{Members}
 use Rattle.rules.specs.declared.Members.the-variants.{Under, NoMembers}
 use Rattle.rules.specs.declared.Mark.{Mark}
-use Rattle.rules.specs.declared.Mark.the-variants.{First, Once, AtMostOnce, AnyNumber}
+use Rattle.rules.specs.declared.Mark.the-variants.{First, FirstIfPresent, Once, AtMostOnce, AnyNumber}
 use Rattle.rules.specs.declared.Admission.{Admission}
 use Rattle.rules.specs.declared.Admission.the-variants.{ByRow, NoRow}
 use Rattle.rules.specs.declared.Grammar.{Grammar}
 use Rattle.rules.specs.declared.ExchangeRules.{ExchangeRules}
-use Rattle.rules.specs.declared.ExchangeRules.the-variants.{OfRequest, OfAnswer}
+use Rattle.rules.specs.declared.ExchangeRules.the-variants.{OfRequest, OfAnswer, WindowsAlone}
 use Rattle.rules.specs.declared.Found.{Found}
 use Rattle.rules.specs.declared.Found.the-variants.{At, Nothing}
 use Rattle.rules.specs.Verdict.{orElse}
@@ -41,6 +41,7 @@ module _ (t : Verdict → Bool) (r : AvpRefusals t) where
   mark-meets : (mark : Mark) (met first : Bool) (a : Avp) → meets t (byMark mark met first a) ≡ true
   unfolding meets
   mark-meets First met first a = simp (either t, both, r .many, r .unallowed)
+  mark-meets FirstIfPresent met first a = simp (either t, both, r .many, r .unallowed)
   mark-meets Once met first a = simp (either t, both, r .many)
   mark-meets AtMostOnce met first a = simp (either t, both, r .many)
   mark-meets AnyNumber met first a = refl
@@ -192,9 +193,11 @@ module _ (t : Verdict → Bool) (r : AvpRefusals t) where
 
   by-command : (find : ℕ → ℕ → Found) (rules : ExchangeRules) (xs : List Avp) (s : List ℕ) (end number : ℕ)
       → meets t (byCommand find rules xs s end number (eachPolicy xs)) ≡ true
+  unfolding meets
   by-command find OfRequest xs s end number = request-meets find xs s end
   by-command find OfAnswer xs s end number =
       answer-meets find xs end number (eachPolicy xs) (policies-at-meets xs (positions xs 10415 4207))
+  by-command find WindowsAlone xs s end number = refl
 
   pub exchange-meets : (rules : ExchangeRules) (xs : List Avp) (s : List ℕ) (end : ℕ)
       → meets t (exchangeOutcome rules xs s end) ≡ true

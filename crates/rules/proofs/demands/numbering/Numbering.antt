@@ -63,7 +63,6 @@ command-readers s =
       application = refl;
       code = refl;
       bits = refl;
-      error = refl;
     })
     (record {
       bits = λ place vendor code. refl;

@@ -39,7 +39,6 @@ pub record HeaderRefusals (s : List ℕ) (t : Verdict → Bool) : Type 0 where
   pub application : t (verdict 3007 8 0 0) ≡ true
   pub code : t (verdict 3001 5 0 0) ≡ true
   pub bits : t (verdict 3008 4 0 0) ≡ true
-  pub error : t (verdict 7005 4 0 0) ≡ true
 
 -- the refusals for an AVP, at any place and of any name but for 7002, which has none: a test holds of each
 pub record AvpRefusals (t : Verdict → Bool) : Type 0 where
@@ -91,7 +90,7 @@ module _ (s : List ℕ) (t : Verdict → Bool) (r : HeaderRefusals s t) where
 
   flags-meets : (flags : ℕ) → meets t (flagsOutcome flags) ≡ true
   unfolding flagsOutcome meets
-  flags-meets flags = simp (either t, both, r .bits, r .error)
+  flags-meets flags = simp (either t, both, r .bits)
 
   pub header-meets : meets t (headerOutcome s) ≡ true
   unfolding headerOutcome
