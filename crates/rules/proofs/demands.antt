@@ -32,6 +32,8 @@ pub mod Volumes
 -- request [5]: times and windows
 pub mod Times
 pub mod Windows
+-- request [1]: answers with E
+pub mod ErrorAnswers
 -- what a listing tells of a book
 pub mod Listings
 pub mod Examples

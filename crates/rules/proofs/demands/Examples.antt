@@ -23,6 +23,7 @@ use Rattle.rules.specs.Draft.{isBlank, allBlank, isPlaced, allPlaced, is
 use Rattle.rules.specs.Writer.{ownOutcome, draftOutcome, octetsWritten, writing, outputAfter}
 use Rattle.rules.specs.Calls.{rest, outputAfterAll, acceptedDrafts}
 use Rattle.rules.specs.Edges.{header, avp, avpOf3GPP, sBegins, vendorId, sGoesOn, sEnds, sFront, s}
+use Rattle.rules.specs.ErrorAnswers.{withFlags, errorAnswer, session, host, realm, result, three}
 
 -- other octets from a place on
 abbrev pub changed : List ℕ → ℕ → List ℕ → List ℕ
@@ -73,6 +74,14 @@ examples =
       output = s ++ (s ++ (0xEE ∷ 0xEE ∷ 0xEE ∷ []));
       accepted = s ∷ altered ∷ [];
     }
+    -- request [1]: an answer with E, and one with P clear, are written as they are
+    ∷ record {
+      commands = errorAnswer 68 (session ++ three) ∷ withFlags 0x20 56 three ∷ [];
+      before = replicate 125 0xEE;
+      answers = answer 0 0 68 ∷ answer 0 0 56 ∷ [];
+      output = errorAnswer 68 (session ++ three) ++ (withFlags 0x20 56 three ++ (0xEE ∷ []));
+      accepted = errorAnswer 68 (session ++ three) ∷ withFlags 0x20 56 three ∷ [];
+    }
     ∷ []
 
 -- what comes of the calls
@@ -94,7 +103,7 @@ worked x = record {
 
 -- each example has its answers, its output and its accepted drafts
 pub worked-calls : map worked examples ≡ examples
-unfolding examples s altered header avp avpOf3GPP sBegins vendorId sGoesOn sEnds sFront answersOf outputAfterAll acceptedDrafts numberAt padded lengthOutcome applicationOutcome flagsOutcome headerOutcome avpAt rowsOf admitsOthers dictionary find framing wrongFlags unsupported wrongWidth wrongValue tooDeep contents checked walkAvp walkList admissionFrom memberOutcome missingFrom membersOutcome membersAt groupsOutcome rowsOutcome positionsFrom volume firstRequest laterRequest requestOutcome resultOutcome policiesOutcome policyIn policiesAt answerOutcome windowIn eachWindow exchangeBy rulesBy walkOf listsOutcome commandOutcome commandVerdict recordOf emptyRecord reading octets avpFlags avpHeader avpOctets listOctets flagsOctet commandHeader commandOctets isBlank allBlank isPlaced allPlaced isTree membersSize hasSizes identifiersFit nameFits namesFit isWellFormed ownOutcome draftOutcome octetsWritten writing outputAfter
+unfolding examples withFlags session host realm result three s altered header avp avpOf3GPP sBegins vendorId sGoesOn sEnds sFront answersOf outputAfterAll acceptedDrafts numberAt padded lengthOutcome applicationOutcome flagsOutcome headerOutcome avpAt rowsOf admitsOthers dictionary find framing wrongFlags unsupported wrongWidth wrongValue tooDeep contents checked walkAvp walkList admissionFrom memberOutcome missingFrom membersOutcome membersAt groupsOutcome rowsOutcome positionsFrom volume firstRequest laterRequest requestOutcome resultOutcome policiesOutcome policyIn policiesAt answerOutcome windowIn eachWindow exchangeBy rulesBy walkOf listsOutcome commandOutcome commandVerdict recordOf emptyRecord reading octets avpFlags avpHeader avpOctets listOctets flagsOctet commandHeader commandOctets isBlank allBlank isPlaced allPlaced isTree membersSize hasSizes identifiersFit nameFits namesFit isWellFormed ownOutcome draftOutcome octetsWritten writing outputAfter
 worked-calls = refl
 
 -- ---- agreement
@@ -111,9 +120,10 @@ unfoldable pub comparisons : List Compared
 comparisons =
     -- S itself, and with other padding and reserved bits
     compare s true ∷ compare altered true
-    -- its Session-Id changed, T set, R clear, the last AVP left out
+    -- its Session-Id changed, T set, R clear, E set, P clear, the last AVP left out
     ∷ compare (changed s 28 (0x74 ∷ [])) false ∷ compare (changed s 4 (0xD0 ∷ [])) false
-    ∷ compare (changed s 4 (0x40 ∷ [])) false ∷ compare (take 144 s) false ∷ []
+    ∷ compare (changed s 4 (0x40 ∷ [])) false ∷ compare (changed s 4 (0xE0 ∷ [])) false
+    ∷ compare (changed s 4 (0x80 ∷ [])) false ∷ compare (take 144 s) false ∷ []
 
 pub worked-agreement : map (λ x. agree s (x .other)) comparisons ≡ map (λ x. x .agrees) comparisons
 unfolding comparisons s altered header avp avpOf3GPP sBegins vendorId sGoesOn sEnds sFront fillsOne agreesBelow agree numberAt padded avpAt dictionary find framing wrongFlags unsupported wrongWidth wrongValue tooDeep contents checked walkAvp walkList walkOf octets

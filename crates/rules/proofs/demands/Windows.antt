@@ -162,7 +162,7 @@ module _ (c : List ℕ) (xs : List Avp) where
     passed-from zero h = p
     passed-from (suc k) h = passed-both k h (passed-from k (omega arith)) .1
 
-    pass-all-right : AllRight c xs
+    pub pass-all-right : AllRight c xs
     pass-all-right k h w = passed-right c xs k w (passed-both k h (passed-from k (omega arith)) .0)
 
 -- ---- in their place
