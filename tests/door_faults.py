@@ -14,7 +14,7 @@ import time
 
 from fault_tools import (COMPLETE, DOOR, FAILED, HANGING, Imitation, KIT, LINK, NOT_BUILT, PROGRAM, ROOT, SAMPLE,
                          SAMPLE_LISTING, USAGE, as_nobody, check, closed, expect, expect_door, expect_sample,
-                         expect_words, longest_book, run, script, sha256)
+                         expect_words, has_end_line, longest_book, run, script, sha256)
 
 STAMP = "3" * 64
 OK = "echo 'rt: ok, 2 crates proved'"
@@ -104,7 +104,15 @@ def incomplete_checks(folder):
 
 def other_programs(folder):
     """The record fits what is here, but for one thing. Times are as they were, or long past."""
-    patched = PROGRAM.read_bytes().replace((7005).to_bytes(4, "little"), (7004).to_bytes(4, "little"))
+    # 5005 is the number of each refusal for a missing AVP, and stands in lines of the sample's listing. With 5004 in
+    # its place the program runs, and that listing is wrong.
+    patched = PROGRAM.read_bytes().replace((5005).to_bytes(4, "little"), (5004).to_bytes(4, "little"))
+    wrong_program = folder / "wrong"
+    wrong_program.write_bytes(patched)
+    wrong_program.chmod(0o755)
+    status, listing, _ = run([wrong_program], book=SAMPLE)
+    check("a program that is patched", "status, an `end` line and the sample's listing",
+          (status, has_end_line(listing), listing == SAMPLE_LISTING), (0, True, False))
     wrong = "is not the one that was proved"
     for name, content in (("patched", patched), ("cut short", PROGRAM.read_bytes()[:5000]), ("empty", b""),
                           ("built elsewhere", b"#!/bin/sh\nprintf 'NTB 1\\nend 0 0\\n'\n")):
