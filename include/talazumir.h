@@ -86,15 +86,19 @@ extern "C" {
  *   5014  AVP length                  5015  command length
  *   7001  longer than 16,384 octets   7002  257th AVP
  *   7003  group at depth 4            7004  output too short (writer), buffer too short (link)
- *   7005  error answer                7006  malformed draft (writer)
- *   7009  the run has stopped, or no such state (link)
+ *   7006  malformed draft (writer)    7009  the run has stopped, or no such state (link)
  *
  * The place is the first octet of the AVP at fault; for 5005 the end of the list that lacks the AVP, with the missing
- * vendor and code. Of AVPs that exclude each other 5008 names, in an answer, Experimental-Result (297) beside
+ * vendor and code. Of AVPs that exclude each other 5008 names, in an answer without E, Experimental-Result (297) beside
  * Result-Code (268), and in a request whose Transfer-Request-Type (4203) is 0 CC-Total-Octets (421) beside
  * CC-Input-Octets (412) or CC-Output-Octets (414). Where talazumir_seconds from start to end of a Time-Window (4204) is
  * not above 0, 5004 names its Transfer-End-Time (4205). Header refusals and 7002 have vendor and code 0; 7004, 7006,
- * 7009 and the writer's 7001 have place 0 too. */
+ * 7009 and the writer's 7001 have place 0 too.
+ *
+ * An error answer, which has E set and R clear, is judged by the general form of RFC 6733, clause 7.2: Session-Id (263)
+ * at most once and as the first AVP, Origin-Host (264), Origin-Realm (296) and Result-Code (268) once, whatever its
+ * value. Of the rules that are named above it has that of the Time-Window alone. P may be clear in it: 3008 is for E
+ * with R, and for a clear P without E. */
 struct TalazumirVerdict {
     uint32_t number;
     uint32_t place;

@@ -1,5 +1,6 @@
-/* Reads document 01's commands S, S without its last AVP, and H through the boundary, writes drafts made from S and the
- * canonical form of commands like S, and prints what comes back; and the seconds between some times. */
+/* Reads document 01's commands S, S without its last AVP, and H, and an error answer through the boundary, writes
+ * drafts made from S and the canonical form of commands like S, and prints what comes back; and the seconds between
+ * some times. */
 #include <inttypes.h>
 #include <stdio.h>
 #include <string.h>
@@ -143,6 +144,22 @@ int main(void) {
     h[3] = sizeof h;
     print_verdict("H", talazumir_verdict(h, sizeof h, log_numbers));
     print_verdict("empty slice", talazumir_verdict(S, 0, log_numbers));
+    h[4] = 0x60;
+    print_verdict("H with flags 60", talazumir_verdict(h, sizeof h, log_numbers));
+
+    /* an error answer: H with flags 20, Origin-Host and Origin-Realm of S, and Result-Code 3002 */
+    static const uint8_t result[12] = {0, 0, 1, 0x0C, 0x40, 0, 0, 12, 0, 0, 0x0B, 0xBA};
+    uint8_t error[56];
+    memcpy(error, h, sizeof h);
+    error[3] = sizeof error;
+    error[4] = 0x20;
+    memcpy(error + 20, S + 64, 24);
+    memcpy(error + 44, result, sizeof result);
+    print_verdict("error answer", talazumir_read(error, sizeof error, record));
+    print_numbers("R P E T, identifiers, count", record, 7);
+    print_data(2, error, sizeof error);
+    error[4] = 0;
+    print_verdict("the same without E", talazumir_read(error, sizeof error, record));
 
     talazumir_read(S, sizeof S, record);
     print_written("S", sizeof output);

@@ -152,7 +152,7 @@ impl Record {
         self.numbers[1] == 1
     }
 
-    /// The E flag: an error answer.
+    /// The E flag: of an accepted command, that it is an error answer.
     pub fn is_error(&self) -> bool {
         self.numbers[2] == 1
     }
@@ -242,7 +242,23 @@ impl Record {
     }
 }
 
-/// The record of an accepted command, or the verdict that refuses it.
+/// The record of an accepted command, or the verdict that refuses it. An error answer, which has E set and R clear, is
+/// judged by the general form of RFC 6733, clause 7.2, and may have P clear.
+///
+/// ```
+/// // An error answer with P clear: Origin-Host (264) "h", Origin-Realm (296) "r" and Result-Code (268) 3002.
+/// let octets = [
+///     1, 0, 0, 56, 0x20, 0x80, 0, 0x73, 1, 0, 0, 0x84, 0, 0, 0, 1, 0, 0, 0, 2,
+///     0, 0, 1, 8, 0x40, 0, 0, 9, b'h', 0, 0, 0,
+///     0, 0, 1, 40, 0x40, 0, 0, 9, b'r', 0, 0, 0,
+///     0, 0, 1, 12, 0x40, 0, 0, 12, 0, 0, 11, 186,
+/// ];
+/// let record = talazumir::read(&octets)?;
+/// assert!(record.is_error() && !record.is_request() && !record.is_proxiable());
+/// let result = record.search(0, 268, 0).position.expect("an error answer has a Result-Code");
+/// assert_eq!(record.data(result, &octets), 3002_u32.to_be_bytes());
+/// # Ok::<(), talazumir::Verdict>(())
+/// ```
 pub fn read(octets: &[u8]) -> Result<Record, Verdict> {
     let (verdict, numbers) = boundary::read(octets);
     if verdict.is_accepted() {

@@ -65,11 +65,18 @@ fn refusals_have_number_place_vendor_and_code() {
     let mut reader = Reader::new();
     assert!(reader.verdict(&S).is_accepted());
     assert_eq!(reader.verdict(&H), refusal(5005, 20, 0, 263));
-    let edges = [(0, 2, 5011, 0), (3, 24, 5015, 1), (11, 0x82, 3007, 8), (4, 0xE0, 3008, 4), (4, 0x60, 7005, 4)];
-    for (at, octet, number, place) in edges {
+    let edges = [
+        (0, 2, refusal(5011, 0, 0, 0)),
+        (3, 24, refusal(5015, 1, 0, 0)),
+        (11, 0x82, refusal(3007, 8, 0, 0)),
+        (4, 0xE0, refusal(3008, 4, 0, 0)),
+        // an error answer, by request 1 of 02
+        (4, 0x60, refusal(5005, 20, 0, 264)),
+    ];
+    for (at, octet, expected) in edges {
         let mut octets = H;
         octets[at] = octet;
-        assert_eq!(reader.verdict(&octets), refusal(number, place, 0, 0));
+        assert_eq!(reader.verdict(&octets), expected);
     }
     assert!(reader.verdict(&S).is_accepted());
 }
