@@ -5,12 +5,13 @@ use crate::print;
 use crate::text;
 use rules::limits;
 
-// What a command starts with: the header of H (01, The book and its listing), with the flags of a BTR or of a BTA, and
-// none or some of the AVPs of S (01, Commands at the edges).
+// What a command starts with: the header of H (01, The book and its listing), with the flags of a BTR, of a BTA or of an
+// answer with E, and none or some of the AVPs of S (01, Commands at the edges).
 pub(crate) enum Start {
     // Up to 20: no AVP.
     Request,
     Answer,
+    ErrorAnswer,
     // Up to 100: 263, 260, 277, 264, 296 and 283.
     BegunRequest,
     // Up to 88: 263, 260, 277, 264 and 296, the rows of BTA that are marked ! and 1.
@@ -43,6 +44,7 @@ fn put_start(out: &mut [u8; 16400], start: Start) -> usize {
     match start {
         Start::Request => put_header(out, 0xc0),
         Start::Answer => put_header(out, 0x40),
+        Start::ErrorAnswer => put_header(out, 0x60),
         Start::BegunRequest => put_begun_request(out),
         Start::BegunAnswer => put_begun(out, 0x40),
         Start::S => {

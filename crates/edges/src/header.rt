@@ -35,8 +35,11 @@ pub(crate) fn names() {
 }
 
 pub(crate) fn flags() {
-    // E set, P clear: P clear is listed before E set, 3008 (4).
+    // E set, P clear: an answer with E (02, [1]), which lacks 264 at its end, 20.
     case::octets(b"flags_20", b"#0100001420800073010000840000000100000002");
+    // P clear without E, R and E: 3008 (4).
+    case::octets(b"flags_00", b"#0100001400800073010000840000000100000002");
+    case::octets(b"flags_A0", b"#01000014A0800073010000840000000100000002");
     // R set, P clear: 3008 (4).
     case::octets(b"flags_80", b"#0100001480800073010000840000000100000002");
     // 01, Header: the four reserved bits are ignored; H lacks 263 at its end, 20.

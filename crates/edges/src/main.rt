@@ -1,7 +1,8 @@
 // Runs the commands of document 01, section "Commands at the edges", that are not marked (p), and further edges of its
 // clauses, through the reader, and the codes to 4,300 of three vendors through the dictionary. A line for each case:
-// its label, number, place, Vendor-Id and code. The file `stdout` has what document 01 says must come out.
+// its label, number, place, Vendor-Id and code. The file `stdout` has what the documents say must come out.
 mod case;
+mod error_answers;
 mod exchange;
 mod header;
 mod kinds;
@@ -49,6 +50,11 @@ fn exchange_cases() {
     exchange::windows();
 }
 
+fn error_answer_cases() {
+    error_answers::rows();
+    error_answers::as_every_command();
+}
+
 fn records() {
     record::of_s();
     record::of_flags();
@@ -72,6 +78,7 @@ fn main() {
     walk_cases();
     row_cases();
     exchange_cases();
+    error_answer_cases();
     records();
     dictionary_kinds();
 }

@@ -1,16 +1,11 @@
-// 01, Order of checks, Header: length and version, application and command code, command flags; and what the header
-// chooses for the command to be judged by.
+// 01, Order of checks, Header: length and version, application and command code, command flags.
 ghost use mathlib.Core.Path.{_≡_};
 ghost use mathlib.Core.Bool.{_&&_};
 ghost use lib.ListN.{length};
 ghost use Rattle.rules.specs.Verdict.{refused};
 ghost use Rattle.rules.specs.Header.{isRequest, isError};
 ghost use Rattle.rules.specs.Header.{lengthOutcome, applicationOutcome, flagsOutcome, headerOutcome};
-ghost use Rattle.rules.specs.Command.{rulesBy};
 use octets::has_flag;
-use rules::CommandRules;
-use rules::ExchangeRules;
-use rules::Grammar;
 use rules::Outcome;
 use rules::Verdict;
 use rules::flags;
@@ -103,26 +98,4 @@ pub(crate) fn header_outcome(s: &[u8]) -> Outcome
         return application;
     };
     flags_outcome(s[4])
-}
-
-// What a command is judged by, by its command flags.
-pub(crate) fn command_rules(flags: u8) -> CommandRules
-    ensures { λ r. ⌜ r ≡ rulesBy flags ⌝ }
-{
-    if has_flag(flags, flags::REQUEST) {
-        return CommandRules {
-            rows: Grammar::Request,
-            exchange: ExchangeRules::OfRequest,
-        };
-    }
-    if has_flag(flags, flags::ERROR) {
-        return CommandRules {
-            rows: Grammar::ErrorAnswer,
-            exchange: ExchangeRules::WindowsAlone,
-        };
-    }
-    CommandRules {
-        rows: Grammar::Answer,
-        exchange: ExchangeRules::OfAnswer,
-    }
 }

@@ -1,24 +1,52 @@
-// 01, Order of checks: header, walk, rows, exchange rules and windows; the first that applies is the answer.
+// 01, Order of checks: header, walk, rows, exchange rules and windows; the first that applies is the answer. What a
+// command is judged by is chosen once, from its header.
 ghost use mathlib.Core.Path.{_≡_};
 ghost use Prim.Native.Nat.{_≤_};
 ghost use lib.ListN.{length};
 ghost use Rattle.rules.specs.Header.{headerSize, longestCommand, headerOutcome};
-ghost use Rattle.rules.specs.Command.{commandRules};
+ghost use Rattle.rules.specs.Command.{rulesBy, commandRules};
 ghost use Rattle.lists.specs.Exchanges.{listsIn};
 ghost use Rattle.reader.specs.Promise.{IsJudgedBy, IsJudged};
 use crate::Judgement;
 use crate::header;
 use dictionary::plain;
+use octets::has_flag;
+use rules::CommandRules;
+use rules::ExchangeRules;
+use rules::Grammar;
 use rules::Outcome;
+use rules::flags;
 use rules::limits;
 use walk::Walk;
+
+// What a command is judged by, by its command flags.
+fn command_rules(flags: u8) -> CommandRules
+    ensures { λ r. ⌜ r ≡ rulesBy flags ⌝ }
+{
+    if has_flag(flags, flags::REQUEST) {
+        return CommandRules {
+            rows: Grammar::Request,
+            exchange: ExchangeRules::OfRequest,
+        };
+    }
+    if has_flag(flags, flags::ERROR) {
+        return CommandRules {
+            rows: Grammar::ErrorAnswer,
+            exchange: ExchangeRules::WindowsAlone,
+        };
+    }
+    CommandRules {
+        rows: Grammar::Answer,
+        exchange: ExchangeRules::OfAnswer,
+    }
+}
 
 // Rows and exchange rules by what a log holds.
 fn lists_outcome(s: &[u8], log: &[u32; limits::LOG_NUMBERS], count: usize) -> Outcome
     requires { ⌜ (headerSize ≤ length (now s)) × (length (now s) ≤ longestCommand) ⌝ }
     ensures { λ r. ⌜ r ≡ listsIn (commandRules (now (s .entry))) (now (s .entry)) (now (log .entry)) (length (now (s .entry))) count ⌝ }
 {
-    let rules = header::command_rules(s[4]);
+    let rules = command_rules(s[4]);
     lists::judge(rules, s, log, count, s.len() as u32)
 }
 

@@ -1,9 +1,9 @@
--- `reader::header::command_rules` meets its contract.
+-- `reader::judge::command_rules` meets its contract.
 use borrow.Author.Needs.{needs}
 use mathlib.Core.Path.{sym, _∙_}
 use Rattle.rules.specs.Command.{rulesBy}
-use Rattle.reader.proofs.header.command_rules.Statement.{statement}
-use Rattle.reader.proofs.header.command_rules.Tie as tie
+use Rattle.reader.proofs.judge.command_rules.Statement.{statement}
+use Rattle.reader.proofs.judge.command_rules.Tie as tie
 
 has-flag-requires : tie.Need-has-flag-requires
 has-flag-requires c κs = search needs
