@@ -1,19 +1,21 @@
-//! The exchange rules of clause 4.4.1, request 2 of 02 among them, on the command's own list, and the windows.
+//! The exchange rules of clause 4.4.1, request 2 of 02 among them, on the command's own list, and the windows, which
+//! alone are asked of an error answer.
 
 use crate::avp::AvpHeader;
 use crate::dictionary::{Kind, Kinds, DIRECTIONS};
-use crate::header::HEADER;
+use crate::header::{Command, HEADER};
 use crate::rows::missing;
 use crate::verdict::{number, Verdict};
 use crate::walk::Found;
 
 /// Checks the command that fills `octets` and whose rows are met.
-pub fn check(request: bool, found: &Found, octets: &[u8]) -> Result<(), Verdict> {
+pub fn check(command: Command, found: &Found, octets: &[u8]) -> Result<(), Verdict> {
     let end = octets.len();
-    match (request, found.request_type) {
-        (false, _) => answer(found, end)?,
-        (true, 0) => new_transfer(found.seen, octets)?,
-        (true, _) => chosen_policy(found.seen, end)?,
+    match (command, found.request_type) {
+        (Command::Request, 0) => new_transfer(found.seen, octets)?,
+        (Command::Request, _) => chosen_policy(found.seen, end)?,
+        (Command::Answer, _) => answer(found, end)?,
+        (Command::ErrorAnswer, _) => {}
     }
     found.window_fault.map_or(Ok(()), Err)
 }
@@ -39,6 +41,7 @@ fn chosen_policy(seen: Kinds, end: usize) -> Result<(), Verdict> {
     need(seen, Kind::DestinationHost, end)
 }
 
+/// An answer without E.
 fn answer(found: &Found, end: usize) -> Result<(), Verdict> {
     let seen = found.seen;
     match (seen.has(Kind::ResultCode), seen.has(Kind::ExperimentalResult)) {

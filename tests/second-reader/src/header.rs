@@ -16,6 +16,28 @@ const P: u8 = 0x40;
 const E: u8 = 0x20;
 const T: u8 = 0x10;
 
+/// What a command is: each has rows and exchange rules of its own.
+#[derive(Clone, Copy, Debug, PartialEq, Eq, PartialOrd, Ord)]
+pub enum Command {
+    /// BTR: R set.
+    Request,
+    /// BTA: R and E clear.
+    Answer,
+    /// An answer with E, request 1 of 02.
+    ErrorAnswer,
+}
+
+impl Command {
+    /// What R and E say.
+    pub const fn of(r: bool, e: bool) -> Command {
+        match (r, e) {
+            (true, _) => Command::Request,
+            (false, false) => Command::Answer,
+            (false, true) => Command::ErrorAnswer,
+        }
+    }
+}
+
 /// What a sound header says.
 #[derive(Clone, Copy, Debug)]
 pub struct Header {
@@ -25,6 +47,13 @@ pub struct Header {
     pub t: bool,
     pub hop_by_hop: u32,
     pub end_to_end: u32,
+}
+
+impl Header {
+    /// What the command is.
+    pub const fn command(&self) -> Command {
+        Command::of(self.r, self.e)
+    }
 }
 
 /// The header of the command that fills `octets`, or its refusal.
@@ -52,11 +81,9 @@ pub fn read(octets: &[u8]) -> Result<Header, Verdict> {
     if word(4) & 0xFF_FFFF != COMMAND_CODE {
         return refuse(number::COMMAND_UNSUPPORTED, 5);
     }
-    if flags & (R | E) == R | E || flags & P == 0 {
+    // P may be clear in an error answer alone.
+    if flags & (R | E) == R | E || flags & (P | E) == 0 {
         return refuse(number::INVALID_HEADER_BITS, 4);
-    }
-    if flags & E != 0 {
-        return refuse(number::ERROR_ANSWER, 4);
     }
     Ok(Header {
         r: flags & R != 0,

@@ -1,5 +1,5 @@
-//! An independent reader and writer of Diameter Nt commands (Background-Data-Transfer request and
-//! answer), written from documents 01 and 02 and their readings alone.
+//! An independent reader and writer of Diameter Nt commands (Background-Data-Transfer request,
+//! answer and error answer), written from documents 01 and 02 and their readings alone.
 //!
 //! One pass over the octets decides everything: the walk counts rows and gathers what the
 //! exchange rules need while it goes, so [`verdict()`] allocates nothing.
@@ -39,6 +39,7 @@ mod writer;
 pub use book::{listing, pieces, Piece, LONGEST_BOOK};
 pub use canonical::canonical;
 pub use draft::{Draft, Place};
+pub use header::Command;
 pub use record::{all, data, search, Avp, Record, Sought, MOST_AVPS};
 pub use verdict::{number, Verdict};
 pub use writer::{length, write, Written};
@@ -93,10 +94,11 @@ pub fn verdict(octets: &[u8]) -> Verdict {
 /// Header, walk, rows, exchange rules: the first that applies is the answer.
 fn judge(octets: &[u8], keep: &mut impl Keep) -> Result<Header, Verdict> {
     let header = header::read(octets)?;
-    let found = walk::walk(octets, header.r, keep)?;
+    let command = header.command();
+    let found = walk::walk(octets, command, keep)?;
     if let Some(fault) = found.row_fault {
         return Err(fault);
     }
-    exchange::check(header.r, &found, octets)?;
+    exchange::check(command, &found, octets)?;
     Ok(header)
 }

@@ -1,6 +1,7 @@
 //! The rows of the commands and of the read groups, and the counting of members against them.
 
 use crate::dictionary::{Kind, Kinds};
+use crate::header::Command;
 use crate::verdict::{number, Verdict};
 use Kind::*;
 
@@ -17,7 +18,7 @@ pub struct Rows {
     pub any: Kinds,
     /// "+": admits any AVP without a row here.
     pub open: bool,
-    /// Whether Session-Id comes first (its mark is !).
+    /// Whether Session-Id, if it is there, comes first.
     pub session_first: bool,
 }
 
@@ -29,7 +30,7 @@ const fn rows(required: &'static [Kind], optional: &'static [Kind], any: &'stati
         single = single.with(optional[i]);
         i += 1;
     }
-    Rows { required, needed, single, any: Kinds::of(any), open, session_first: needed.has(SessionId) }
+    Rows { required, needed, single, any: Kinds::of(any), open, session_first: single.has(SessionId) }
 }
 
 /// Background-Data-Transfer request.
@@ -81,6 +82,24 @@ pub static BTA: Rows = rows(
     &[RedirectHost, TransferPolicy, ProxyInfo, RouteRecord, SupportedFeatures, Load],
     true,
 );
+
+/// An answer with E: the general form of RFC 6733 clause 7.2, as request 1 of 02 lists it.
+pub static ERROR_ANSWER: Rows = rows(
+    &[OriginHost, OriginRealm, ResultCode],
+    &[SessionId, OriginStateId, ErrorMessage, ErrorReportingHost, FailedAvp, ExperimentalResult],
+    &[ProxyInfo],
+    true,
+);
+
+/// The rows of a command's own list.
+#[inline]
+pub fn of_command(command: Command) -> &'static Rows {
+    match command {
+        Command::Request => &BTR,
+        Command::Answer => &BTA,
+        Command::ErrorAnswer => &ERROR_ANSWER,
+    }
+}
 
 static VENDOR_SPECIFIC_APPLICATION_ID: Rows = rows(&[VendorId], &[AuthApplicationId, AcctApplicationId], &[], false);
 static EXPERIMENTAL_RESULT: Rows = rows(&[VendorId, ExperimentalResultCode], &[], &[], false);

@@ -36,15 +36,13 @@ pub mod number {
     pub const GROUP_TOO_DEEP: u32 = 7003;
     /// The output is too short for the command (writer), the buffer for the longest (link).
     pub const OUTPUT_TOO_SHORT: u32 = 7004;
-    /// An error answer (E set).
-    pub const ERROR_ANSWER: u32 = 7005;
     /// A malformed draft (writer).
     pub const MALFORMED_DRAFT: u32 = 7006;
     /// The run has stopped, or a state that no run leads to (link).
     pub const RUN_STOPPED: u32 = 7009;
 
     /// Those that a reader gives.
-    pub const ALL: [u32; 17] = [
+    pub const ALL: [u32; 16] = [
         ACCEPTED,
         COMMAND_UNSUPPORTED,
         APPLICATION_UNSUPPORTED,
@@ -61,7 +59,6 @@ pub mod number {
         COMMAND_TOO_LONG,
         TOO_MANY_AVPS,
         GROUP_TOO_DEEP,
-        ERROR_ANSWER,
     ];
 }
 

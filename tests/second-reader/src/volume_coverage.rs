@@ -2,6 +2,7 @@
 //! the rules before and behind it, and where it does not apply. A run that lacks a cell has tested less than it says.
 
 use crate::dictionary::{Kind, Kinds, DIRECTIONS, VOLUMES};
+use crate::header::Command;
 use crate::record::Avp;
 use crate::verdict::{number, Verdict};
 use crate::walk::Found;
@@ -58,7 +59,7 @@ pub enum Cell {
     BothInGroups,
     /// Acceptance of a request with 4203 = 1 whose list has the volumes in this order.
     ChosenPolicy(&'static [Kind]),
-    /// Acceptance of an answer that has the total beside a direction.
+    /// Acceptance of an answer without E that has the total beside a direction.
     Answer,
 }
 
@@ -90,7 +91,7 @@ pub(crate) fn cells(walked: &Walked, verdict: &Verdict) -> Vec<Cell> {
         (Some(0), Some(order)) => beside(order, (&own, &inner), walked, found, verdict),
         (Some(0), None) => apart(&own_kinds, &inner_kinds, verdict).into_iter().collect(),
         (Some(_), Some(order)) if accepted => vec![Cell::ChosenPolicy(order)],
-        (None, Some(_)) if accepted => vec![Cell::Answer],
+        (None, Some(_)) if accepted && walked.command == Command::Answer => vec![Cell::Answer],
         _ => Vec::new(),
     }
 }

@@ -5,7 +5,7 @@
 
 use crate::avp::AvpHeader;
 use crate::dictionary::{Form, Kind, Kinds};
-use crate::header::HEADER;
+use crate::header::{Command, HEADER};
 use crate::record::{Avp, MOST_AVPS};
 use crate::rows::{self, missing, Members, Rows};
 use crate::time;
@@ -62,8 +62,8 @@ pub struct Found {
     pub seen: Kinds,
 }
 
-/// Walks the command that fills `octets`; `r` tells request from answer.
-pub fn walk(octets: &[u8], r: bool, keep: &mut impl Keep) -> Result<Found, Verdict> {
+/// Walks the command that fills `octets`; the rows of its own list are those of `command`.
+pub fn walk(octets: &[u8], command: Command, keep: &mut impl Keep) -> Result<Found, Verdict> {
     keep.expect(octets.len() - HEADER);
     let mut walk = Walk {
         octets,
@@ -73,8 +73,7 @@ pub fn walk(octets: &[u8], r: bool, keep: &mut impl Keep) -> Result<Found, Verdi
         windows: Earliest::default(),
         found: Found::default(),
     };
-    let list = if r { &rows::BTR } else { &rows::BTA };
-    walk.found.seen = walk.list(list, 1, HEADER, octets.len())?.seen;
+    walk.found.seen = walk.list(rows::of_command(command), 1, HEADER, octets.len())?.seen;
     walk.found.row_fault = walk.rows.fault;
     walk.found.window_fault = walk.windows.fault;
     Ok(walk.found)

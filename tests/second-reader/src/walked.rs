@@ -1,7 +1,7 @@
 //! A command as the coverage of volumes and windows sees it: its AVPs, and what a whole walk finds.
 
 use crate::dictionary::Kind;
-use crate::header;
+use crate::header::{self, Command};
 use crate::record::Avp;
 use crate::verdict::Verdict;
 use crate::walk::{walk, Found};
@@ -10,8 +10,8 @@ use crate::walk::{walk, Found};
 pub struct Walked<'a> {
     /// The command.
     pub octets: &'a [u8],
-    /// Whether it is a request.
-    pub request: bool,
+    /// What it is.
+    pub command: Command,
     /// The AVPs up to the one that stops the walk, if one does.
     pub avps: Vec<Avp>,
     /// What a walk to the end found.
@@ -21,22 +21,32 @@ pub struct Walked<'a> {
 impl Walked<'_> {
     /// Walks a command, unless its header is refused.
     pub fn of(octets: &[u8]) -> Option<Walked<'_>> {
-        let request = header::read(octets).ok()?.r;
+        let command = header::read(octets).ok()?.command();
         let mut avps = Vec::new();
-        let found = walk(octets, request, &mut avps).ok();
-        Some(Walked { octets, request, avps, found })
+        let found = walk(octets, command, &mut avps).ok();
+        Some(Walked { octets, command, avps, found })
     }
 
     /// The Transfer-Request-Type of a request, where its list has one.
     pub fn request_type(&self) -> Option<u32> {
         let found = self.found.as_ref()?;
-        (self.request && found.seen.has(Kind::TransferRequestType)).then_some(found.request_type)
+        (self.command == Command::Request && found.seen.has(Kind::TransferRequestType)).then_some(found.request_type)
     }
 
     /// The data of an AVP.
     pub fn data(&self, avp: &Avp) -> &[u8] {
         &self.octets[avp.start as usize..][..avp.length as usize]
     }
+
+    /// The value of an AVP that has four octets.
+    pub fn value(&self, avp: &Avp) -> u32 {
+        self.data(avp).try_into().map_or(0, u32::from_be_bytes)
+    }
+}
+
+/// The position of the group that an AVP stands in.
+pub fn holder(avps: &[Avp], at: usize) -> Option<usize> {
+    avps[..at].iter().rposition(|before| before.depth < avps[at].depth)
 }
 
 /// Whether this is the named AVP.

@@ -3,12 +3,14 @@
 //! says: the cells are such that a reader with another order of times, or of windows, gives another answer in some.
 
 use crate::dictionary::Kind;
+use crate::header::Command;
 use crate::record::Avp;
 use crate::time::{is_right, seconds};
 use crate::verdict::{number, Verdict};
-use crate::walked::{is, names, Walked};
+use crate::walked::{holder, is, names, Walked};
 use std::cmp::Ordering;
 use std::iter::successors;
+use Command::*;
 use Kind::*;
 
 /// Where a window's times stand. The top bit of a time is set before 7 February 2036, 06:28:16 UTC, and clear from then
@@ -26,7 +28,7 @@ pub enum Sides {
 /// How several windows stand in a command.
 #[derive(Clone, Copy, Debug, PartialEq, Eq, PartialOrd, Ord)]
 pub enum Arrangement {
-    /// Each in a policy of an answer's own list.
+    /// Each in a policy of the own list of an answer without E.
     Policies,
     /// One of them in another.
     Nested,
@@ -73,8 +75,8 @@ pub enum Cell {
     EqualAt(u32),
     /// A window over the turn in this group, and whether it is right.
     Within(Kind, bool),
-    /// A window over the turn in a request with this 4203 or in an answer, and whether it is right.
-    Of(Option<u32>, bool),
+    /// A window over the turn in such a command, a request with this 4203, and whether it is right.
+    Of(Command, Option<u32>, bool),
     /// Several windows.
     Several(Arrangement, Pattern),
     /// 5004 at the end of a window that stands behind the end of a wrong one within it.
@@ -85,8 +87,8 @@ pub enum Cell {
     BehindWalk,
     /// The fault of a row in a command with a wrong window.
     BehindRows,
-    /// An exchange rule, of a request or an answer, by number and name in a command with a wrong window.
-    BehindRule(bool, u32, Kind),
+    /// An exchange rule of such a command, by number and name, where a window is wrong as well.
+    BehindRule(Command, u32, Kind),
 }
 
 /// Half of the range of times, in seconds.
@@ -103,22 +105,22 @@ const ENDS: [u32; 4] = [0x8000_0000, 0xFFFF_FFFF, 0, 0x7FFF_FFFF];
 /// The groups that admit a window.
 const HOLDERS: [Kind; 4] = [ProxyInfo, SupportedFeatures, TimeWindow, TransferPolicy];
 
-/// The exchange rules before the windows: of a request or not, number, and the AVP that it names.
-const RULES: [(bool, u32, Kind); 14] = [
-    (true, number::MISSING_AVP, ApplicationServiceProviderIdentity),
-    (true, number::MISSING_AVP, CcOutputOctets),
-    (true, number::AVP_NOT_ALLOWED, CcTotalOctets),
-    (true, number::MISSING_AVP, NumberOfUes),
-    (true, number::MISSING_AVP, TimeWindow),
-    (true, number::MISSING_AVP, ReferenceId),
-    (true, number::MISSING_AVP, TransferPolicyId),
-    (true, number::MISSING_AVP, DestinationHost),
-    (false, number::MISSING_AVP, ResultCode),
-    (false, number::AVP_NOT_ALLOWED, ExperimentalResult),
-    (false, number::MISSING_AVP, ReferenceId),
-    (false, number::MISSING_AVP, PcrfAddress),
-    (false, number::MISSING_AVP, TimeWindow),
-    (false, number::MISSING_AVP, RatingGroup),
+/// The exchange rules before the windows: of which command, number, and the AVP that it names.
+const RULES: [(Command, u32, Kind); 14] = [
+    (Request, number::MISSING_AVP, ApplicationServiceProviderIdentity),
+    (Request, number::MISSING_AVP, CcOutputOctets),
+    (Request, number::AVP_NOT_ALLOWED, CcTotalOctets),
+    (Request, number::MISSING_AVP, NumberOfUes),
+    (Request, number::MISSING_AVP, TimeWindow),
+    (Request, number::MISSING_AVP, ReferenceId),
+    (Request, number::MISSING_AVP, TransferPolicyId),
+    (Request, number::MISSING_AVP, DestinationHost),
+    (Answer, number::MISSING_AVP, ResultCode),
+    (Answer, number::AVP_NOT_ALLOWED, ExperimentalResult),
+    (Answer, number::MISSING_AVP, ReferenceId),
+    (Answer, number::MISSING_AVP, PcrfAddress),
+    (Answer, number::MISSING_AVP, TimeWindow),
+    (Answer, number::MISSING_AVP, RatingGroup),
 ];
 
 impl Cell {
@@ -140,13 +142,14 @@ impl Cell {
         cells.extend(ENDS.map(EqualAt));
         for right in [true, false] {
             cells.extend(HOLDERS.map(|kind| Within(kind, right)));
-            cells.extend([Some(0), Some(1), None].map(|request_type| Of(request_type, right)));
+            cells.extend([0, 1].map(|request_type| Of(Request, Some(request_type), right)));
+            cells.push(Of(Answer, None, right));
         }
         for arrangement in [Arrangement::Policies, Arrangement::Nested, Arrangement::Lists] {
             cells.extend(Pattern::all().into_iter().map(|pattern| Several(arrangement, pattern)));
         }
         cells.extend([OuterEndBehind, TimesOutside, BehindWalk, BehindRows]);
-        cells.extend(RULES.map(|(request, number, kind)| BehindRule(request, number, kind)));
+        cells.extend(RULES.map(|(command, number, kind)| BehindRule(command, number, kind)));
         cells
     }
 }
@@ -216,10 +219,10 @@ pub(crate) fn cells(walked: &Walked, verdict: &Verdict) -> Vec<Cell> {
     } else if wrong && found.row_fault == Some(*verdict) {
         cells.push(Cell::BehindRows);
     } else if wrong {
-        let rule = RULES.iter().find(|&&(request, number, kind)| {
-            request == walked.request && found.row_fault.is_none() && is(verdict, number, kind)
+        let rule = RULES.iter().find(|&&(command, number, kind)| {
+            command == walked.command && found.row_fault.is_none() && is(verdict, number, kind)
         });
-        cells.extend(rule.map(|&(request, number, kind)| Cell::BehindRule(request, number, kind)));
+        cells.extend(rule.map(|&(command, number, kind)| Cell::BehindRule(command, number, kind)));
     }
     cells
 }
@@ -235,13 +238,13 @@ fn windows(walked: &Walked) -> Vec<Window> {
         let time = |kind| below().find(|member| member.depth == avp.depth + 1 && names(member, kind));
         let (start, end) = (time(TransferStartTime)?, time(TransferEndTime)?);
         let holder = holder(avps, at);
-        let nested = successors(holder, |&at| self::holder(avps, at)).any(|at| names(&avps[at], TimeWindow));
+        let nested = successors(holder, |&at| crate::walked::holder(avps, at)).any(|at| names(&avps[at], TimeWindow));
         Some(Window {
             depth: avp.depth,
             holder: holder.and_then(|at| Kind::of(avps[at].vendor, avps[at].code)),
             nested,
-            start: value(walked, start),
-            end: value(walked, end),
+            start: walked.value(start),
+            end: walked.value(end),
             end_at: end.start,
         })
     };
@@ -253,21 +256,11 @@ fn has_times_outside(walked: &Walked) -> bool {
     let avps = &walked.avps;
     let outside = |kind| {
         let times = avps.iter().enumerate().filter(move |(_, avp)| names(avp, kind));
-        let times = times.map(|(at, avp)| (holder(avps, at), value(walked, avp)));
+        let times = times.map(|(at, avp)| (holder(avps, at), walked.value(avp)));
         times.filter(|(holder, _)| !holder.is_some_and(|at| names(&avps[at], TimeWindow)))
     };
     let reversed = |(list, start)| outside(TransferEndTime).any(|(other, end)| other == list && !is_right(start, end));
     outside(TransferStartTime).any(reversed)
-}
-
-/// The position of the group that an AVP stands in.
-fn holder(avps: &[Avp], at: usize) -> Option<usize> {
-    avps[..at].iter().rposition(|before| before.depth < avps[at].depth)
-}
-
-/// The value of a time, which has four octets.
-fn value(walked: &Walked, time: &Avp) -> u32 {
-    walked.data(time).try_into().map_or(0, u32::from_be_bytes)
 }
 
 /// The cells of one window that is accepted or at fault.
@@ -283,7 +276,7 @@ fn judged(window: &Window, walked: &Walked, cells: &mut Vec<Cell>) {
     }
     if sides == Sides::Over {
         cells.extend(window.holder.map(|kind| Cell::Within(kind, length > 0)));
-        cells.push(Cell::Of(walked.request_type(), length > 0));
+        cells.push(Cell::Of(walked.command, walked.request_type(), length > 0));
     }
 }
 
@@ -295,7 +288,7 @@ fn several(windows: &[Window], walked: &Walked, cells: &mut Vec<Cell>) {
     let policy = |window: &Window| window.depth == 2 && window.holder == Some(TransferPolicy);
     let arrangement = if windows.iter().any(|window| window.nested) {
         Arrangement::Nested
-    } else if !walked.request && windows.iter().all(policy) {
+    } else if walked.command == Answer && windows.iter().all(policy) {
         Arrangement::Policies
     } else {
         Arrangement::Lists

@@ -17,7 +17,7 @@ use std::fmt::{self, Display, Formatter};
 /// what is written are always right (no 5011, 5015, 3007, 3001); a walk meets the draft's AVPs and
 /// no others, of which there are at most 256 (no 7002), and the reader's 7001 comes as the
 /// writer's. 5014 is for widths alone, 3009 for M alone.
-pub const READER: [u32; 10] = [
+pub const READER: [u32; 9] = [
     number::INVALID_HEADER_BITS,
     number::INVALID_AVP_BITS,
     number::AVP_UNSUPPORTED,
@@ -27,7 +27,6 @@ pub const READER: [u32; 10] = [
     number::AVP_OCCURS_TOO_MANY_TIMES,
     number::INVALID_AVP_LENGTH,
     number::GROUP_TOO_DEEP,
-    number::ERROR_ANSWER,
 ];
 
 /// How much too long a command is.

@@ -117,8 +117,8 @@ fn header_edges() {
     assert_eq!(judge(&changed(h(), 5, &[0, 0, 1])), (3001, 5, 0, 0));
     assert_eq!(judge(&changed(changed(h(), 5, &[0, 0, 1]), 8, &four(1))), (3007, 8, 0, 0));
     assert_eq!(judge(&changed(h(), 4, &[0xE0])), (3008, 4, 0, 0));
-    assert_eq!(judge(&changed(h(), 4, &[0x60])), (7005, 4, 0, 0));
-    assert_eq!(judge(&changed(h(), 4, &[0x20])), (3008, 4, 0, 0));
+    assert_eq!(judge(&changed(h(), 4, &[0x60])), (5005, 20, 0, 264));
+    assert_eq!(judge(&changed(h(), 4, &[0x20])), (5005, 20, 0, 264));
     assert_eq!(judge(&changed(h(), 4, &[0x80])), (3008, 4, 0, 0));
     assert_eq!(judge(&changed(h(), 4, &[0xDF])), (5005, 20, 0, 263));
 }

@@ -272,7 +272,8 @@ fn what_the_reader_refuses() {
     };
     assert_eq!(changed(|draft| draft.p = 0), [3008, 4, 0, 0, 0]);
     assert_eq!(changed(|draft| draft.e = 1), [3008, 4, 0, 0, 0]);
-    assert_eq!(changed(|draft| (draft.r, draft.e) = (0, 1)), [7005, 4, 0, 0, 0]);
+    // An error answer, which has no 268.
+    assert_eq!(changed(|draft| (draft.r, draft.e) = (0, 1)), [5005, 160, 0, 268, 0]);
     assert_eq!(changed(|draft| draft.places[10].m = 0), [3009, 144, TGPP, 4208, 0]);
     assert_eq!(changed(|draft| draft.places[10].vendor = 0), [5001, 144, 0, 4208, 0]);
     assert_eq!(changed(|draft| draft.places[10].length = 3), [5014, 144, TGPP, 4208, 0]);
