@@ -2,6 +2,8 @@
 
 mod books;
 pub mod drafts;
+mod errors;
+mod fill;
 pub mod lists;
 mod mutate;
 mod prng;

@@ -1,10 +1,11 @@
 //! Sound commands of every shape.
 
+use super::fill::{fill, open_groups, stretch};
 use super::prng::Prng;
-use super::times;
 use super::tree::{Body, Node, Tree};
+use super::{errors, times};
 use crate::dictionary::{Form, Kind, DIRECTIONS, VOLUMES};
-use crate::header::LONGEST_COMMAND;
+use crate::header::{Command, LONGEST_COMMAND};
 use crate::record::MOST_AVPS;
 use crate::rows::{self, Rows};
 use Kind::*;
@@ -13,18 +14,21 @@ use Kind::*;
 pub const GROUPS: [Kind; 6] =
     [VendorSpecificApplicationId, ExperimentalResult, ProxyInfo, SupportedFeatures, TimeWindow, TransferPolicy];
 
+/// Values of 268, which is not judged: of a success, a protocol error, failures.
+const RESULTS: [u32; 5] = [2001, 3007, 3008, 4002, 5005];
+
 /// A sound command, rarely one that a limit refuses.
 pub fn command(prng: &mut Prng) -> Tree {
-    let mut flags = 0x40 | (prng.octet() & 0x0F);
+    let (mut flags, command, list) = match prng.below(8) {
+        0..=2 => (0xC0, Command::Request, request(prng)),
+        3..=5 => (0x40, Command::Answer, answer(prng)),
+        _ => (prng.pick(&[0x20, 0x60]), Command::ErrorAnswer, errors::error_answer(prng)),
+    };
+    let rows = rows::of_command(command);
+    flags |= prng.octet() & 0x0F;
     if prng.one_in(3) {
         flags |= 0x10;
     }
-    let (rows, list) = if prng.one_in(2) {
-        flags |= 0x80;
-        (&rows::BTR, request(prng))
-    } else {
-        (&rows::BTA, answer(prng))
-    };
     let mut tree = Tree::of(flags, prng.word(), prng.word(), list);
     extras(&mut tree.list, rows, 1, prng);
     if !prng.one_in(4) {
@@ -42,7 +46,7 @@ pub fn command(prng: &mut Prng) -> Tree {
 }
 
 /// A sound command with several AVPs of a kind that its own list admits in any number, at times with
-/// one more in a group; rarely one that a limit refuses.
+/// one more in a group, or with the most AVPs; rarely one that a limit refuses.
 pub fn repeated(prng: &mut Prng) -> Tree {
     let mut tree = command(prng);
     let kind = prng.pick(&[RouteRecord, ProxyInfo, SupportedFeatures, RedirectHost, Load]);
@@ -55,6 +59,9 @@ pub fn repeated(prng: &mut Prng) -> Tree {
         if let Body::Members(members) = &mut tree.list[prng.pick(&groups)].body {
             members.push(known(kind, 2, prng));
         }
+    }
+    if prng.one_in(60) {
+        fill(&mut tree, MOST_AVPS, prng);
     }
     tree
 }
@@ -134,7 +141,7 @@ pub fn policy(prng: &mut Prng) -> Node {
 }
 
 /// The required rows of a list, in printed order.
-fn required(rows: &'static Rows, depth: usize, prng: &mut Prng) -> Vec<Node> {
+pub fn required(rows: &'static Rows, depth: usize, prng: &mut Prng) -> Vec<Node> {
     rows.required.iter().map(|&kind| known(kind, depth, prng)).collect()
 }
 
@@ -183,6 +190,7 @@ fn four(kind: Kind, prng: &mut Prng) -> Vec<u8> {
         AuthSessionState => 1,
         TransferRequestType => prng.below(2) as u32,
         TransferPolicyId => prng.below(9) as u32,
+        ResultCode if !prng.one_in(4) => prng.pick(&RESULTS),
         _ => prng.word(),
     };
     value.to_be_bytes().to_vec()
@@ -289,42 +297,6 @@ fn extra(rows: &Rows, depth: usize, prng: &mut Prng) -> Option<Node> {
         return None;
     }
     Some(known(kind, depth, prng))
-}
-
-/// Adds short AVPs, anywhere that admits them, until there are `goal`.
-pub fn fill(tree: &mut Tree, goal: usize, prng: &mut Prng) {
-    while tree.count() < goal {
-        let mut node = if prng.one_in(2) { unknown(prng) } else { known(RouteRecord, 1, prng) };
-        if let Body::Data(data) = &mut node.body {
-            data.truncate(6);
-        }
-        let groups = open_groups(tree);
-        if groups.is_empty() || !prng.one_in(4) {
-            tree.list.insert(1 + prng.below(tree.list.len()), node);
-        } else if let Body::Members(members) = &mut tree.list[prng.pick(&groups)].body {
-            members.push(node);
-        }
-    }
-}
-
-/// Where the groups of the command's own list stand that admit any other AVP.
-fn open_groups(tree: &Tree) -> Vec<usize> {
-    let is_open =
-        |node: &Node| [ProxyInfo, SupportedFeatures, TimeWindow, TransferPolicy].into_iter().any(|kind| node.is(kind));
-    (0..tree.list.len()).filter(|&at| is_open(&tree.list[at])).collect()
-}
-
-/// Adds one long AVP that makes the command `goal` octets long, if there is room.
-pub fn stretch(tree: &mut Tree, goal: usize, prng: &mut Prng) {
-    let length = tree.encode().len();
-    if length + 20 > goal || tree.count() >= MOST_AVPS {
-        return;
-    }
-    let mut node = if prng.one_in(2) { unknown(prng) } else { known(RouteRecord, 1, prng) };
-    let header = if node.vendor.is_some() { 12 } else { 8 };
-    let room = goal - length - header - prng.below(4);
-    node.body = Body::Data(prng.octets(room));
-    tree.list.insert(1 + prng.below(tree.list.len()), node);
 }
 
 impl Node {

@@ -1,7 +1,7 @@
 //! A command as a tree, which may be wrong in many ways, and its octets.
 
 use crate::avp::padded;
-use crate::header::{APPLICATION, COMMAND_CODE, HEADER};
+use crate::header::{Command, APPLICATION, COMMAND_CODE, HEADER};
 
 /// What an AVP holds.
 #[derive(Clone, Debug)]
@@ -99,6 +99,11 @@ impl Tree {
             list,
             tail: Vec::new(),
         }
+    }
+
+    /// What the command is by R and E.
+    pub fn command(&self) -> Command {
+        Command::of(self.flags & 0x80 != 0, self.flags & 0x20 != 0)
     }
 
     /// The command's octets, a multiple of four of them unless a mutation says otherwise.

@@ -6,6 +6,7 @@ use crate::draft::{Draft, Place};
 use crate::generate::mutate;
 use crate::generate::prng::Prng;
 use crate::generate::tree::{Body, Node, Tree};
+use crate::header::Command;
 use crate::record::MOST_AVPS;
 
 /// Where a draft comes from.
@@ -75,6 +76,7 @@ fn built(prng: &mut Prng) -> (Draft, Vec<u8>) {
     match prng.below(8) {
         0 => {}
         1 => mutate::volumes(&mut tree, prng),
+        2 if tree.command() == Command::ErrorAnswer => mutate::error_answer(&mut tree, prng),
         2 => mutate::windows(&mut tree, prng),
         3..=6 => mutate::tree(&mut tree, prng),
         _ => mutate::rules(&mut tree, prng),
@@ -137,8 +139,9 @@ fn random(prng: &mut Prng) -> (Draft, Vec<u8>) {
     let room = prng.pick(&[0, 1, 7, 40, 40, 300]);
     let octets = prng.octets(room);
     let count = prng.pick(&[0, 1, 2, 3, 5, 8, 13, 40, 255, 256]);
-    let mut draft = Draft { r: prng.below(2) as u32, p: 1, count, ..Draft::default() };
-    draft.e = prng.one_in(12).into();
+    let mut draft = Draft { r: prng.below(2) as u32, count, ..Draft::default() };
+    draft.p = (!prng.one_in(12)).into();
+    draft.e = prng.one_in(4).into();
     draft.t = prng.one_in(3).into();
     (draft.hop_by_hop, draft.end_to_end) = (prng.word(), prng.word());
     let mut deepest = 1;

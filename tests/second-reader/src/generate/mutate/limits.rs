@@ -3,6 +3,7 @@
 use super::pick::{one, some_list};
 use crate::avp::padded;
 use crate::dictionary::Kind;
+use crate::generate::fill::{fill, stretch};
 use crate::generate::prng::Prng;
 use crate::generate::sound;
 use crate::generate::tree::{Body, Node, Tree};
@@ -38,7 +39,7 @@ pub fn crowd(tree: &mut Tree, prng: &mut Prng) {
     if prng.one_in(2) {
         crowd_group(tree, goal, prng);
     } else {
-        sound::fill(tree, goal, prng);
+        fill(tree, goal, prng);
     }
     if prng.one_in(3) {
         let length = prng.below(12);
@@ -112,7 +113,7 @@ pub fn lose_padding(tree: &mut Tree, prng: &mut Prng) {
 
 pub fn too_long(tree: &mut Tree, prng: &mut Prng) {
     let goal = LONGEST_COMMAND + prng.pick(&[0, 4, 4, 8, 100, 4000]);
-    sound::stretch(tree, goal, prng);
+    stretch(tree, goal, prng);
 }
 
 impl Node {

@@ -1,5 +1,6 @@
 //! Ways to make a command wrong.
 
+mod errors;
 mod fields;
 mod limits;
 mod members;
@@ -7,15 +8,20 @@ mod octets;
 mod pick;
 mod windows;
 
+pub use errors::error_answer;
 pub use members::volumes;
 pub use octets::{fit, octets};
 pub use windows::windows;
 
 use super::prng::Prng;
 use super::tree::Tree;
+use crate::header::Command;
 
 /// Changes the tree in one way.
 pub fn tree(tree: &mut Tree, prng: &mut Prng) {
+    if tree.command() == Command::ErrorAnswer && prng.one_in(2) {
+        return error_answer(tree, prng);
+    }
     match prng.below(46) {
         0 => fields::header(tree, prng),
         1..=3 => members::drop_any(tree, prng),
@@ -49,6 +55,10 @@ pub fn tree(tree: &mut Tree, prng: &mut Prng) {
 /// Breaks several rows or exchange rules, so that their order shows.
 pub fn rules(tree: &mut Tree, prng: &mut Prng) {
     for _ in 0..2 + prng.below(4) {
+        if tree.command() == Command::ErrorAnswer && prng.one_in(2) {
+            error_answer(tree, prng);
+            continue;
+        }
         match prng.below(14) {
             0 | 1 => members::drop_any(tree, prng),
             2 => members::drop_ruled(tree, prng),

@@ -6,6 +6,7 @@ use crate::dictionary::Kind;
 use crate::generate::prng::Prng;
 use crate::generate::tree::{Body, Node, Tree};
 use crate::generate::{sound, times};
+use crate::header::Command;
 use Kind::*;
 
 /// Makes a window wrong; at times a further one, or two of which one stands in the other.
@@ -27,7 +28,8 @@ pub fn window(tree: &mut Tree, prng: &mut Prng) {
 /// Several windows, right and wrong, in policies, in other groups or in each other. At times there are times outside a
 /// window, or something is broken that goes before the windows.
 pub fn windows(tree: &mut Tree, prng: &mut Prng) {
-    let answer = tree.flags & 0x80 == 0;
+    // An answer whose policies have to be whole.
+    let answer = tree.command() == Command::Answer;
     match prng.below(3) {
         0 if answer => add_policies(tree, prng),
         1 => add_nested(tree, answer, prng),
@@ -129,13 +131,14 @@ fn add_times(tree: &mut Tree, prng: &mut Prng) {
     }
 }
 
-/// Breaks an exchange rule or, less often, gives a value that stops the walk.
+/// Breaks an exchange rule, of an error answer a row, or, less often, gives a value that stops the walk.
 fn break_before(tree: &mut Tree, answer: bool, prng: &mut Prng) {
     let first = tree.list.iter().any(|node| {
         node.is(TransferRequestType) && matches!(&node.body, Body::Data(data) if data.iter().all(|&octet| octet == 0))
     });
     let needed: &[Kind] = match (answer, first) {
         (true, _) => &[ResultCode, ReferenceId, PcrfAddress],
+        _ if tree.command() == Command::ErrorAnswer => &[OriginHost, OriginRealm, ResultCode],
         (false, true) => &[ApplicationServiceProviderIdentity, CcOutputOctets, NumberOfUes, TimeWindow, TimeWindow],
         (false, false) => &[ReferenceId, TransferPolicyId, DestinationHost],
     };
