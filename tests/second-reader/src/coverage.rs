@@ -2,11 +2,11 @@
 
 use crate::avp::AvpHeader;
 use crate::dictionary::{Form, Kind};
-use crate::header::HEADER;
+use crate::header::{Command, HEADER};
 use crate::rows;
 use crate::verdict::{number, Verdict};
 use crate::walked::Walked;
-use crate::{volume_coverage, window_coverage};
+use crate::{error_coverage, volume_coverage, window_coverage};
 use std::collections::BTreeMap;
 use std::fmt::{self, Display, Formatter};
 use std::ops::RangeInclusive;
@@ -26,12 +26,13 @@ pub struct Coverage {
     by_depth: BTreeMap<(u32, u8), u64>,
     by_name: BTreeMap<(u32, u32, u32), u64>,
     by_place: BTreeMap<(u32, u32), u64>,
-    by_name_and_depth: BTreeMap<(u32, u32, u32, u8), u64>,
+    by_name_and_depth: BTreeMap<(Command, u32, u32, u32, u8), u64>,
     widths_by_depth: BTreeMap<u8, u64>,
     accepted_by_depth: BTreeMap<u8, u64>,
     by_volumes: BTreeMap<volume_coverage::Cell, u64>,
     by_windows: BTreeMap<window_coverage::Cell, u64>,
-    requests: u64,
+    by_errors: BTreeMap<error_coverage::Cell, u64>,
+    accepted_by_command: BTreeMap<Command, u64>,
     most_avps: usize,
     longest: usize,
 }
@@ -41,11 +42,15 @@ impl Coverage {
     pub fn note(&mut self, octets: &[u8], verdict: &Verdict) {
         self.commands += 1;
         *self.by_number.entry(verdict.number).or_default() += 1;
-        if let Some(walked) = Walked::of(octets) {
-            for cell in volume_coverage::cells(&walked, verdict) {
+        let walked = Walked::of(octets);
+        for cell in error_coverage::cells(octets, walked.as_ref(), verdict) {
+            *self.by_errors.entry(cell).or_default() += 1;
+        }
+        if let Some(walked) = &walked {
+            for cell in volume_coverage::cells(walked, verdict) {
                 *self.by_volumes.entry(cell).or_default() += 1;
             }
-            for cell in window_coverage::cells(&walked, verdict) {
+            for cell in window_coverage::cells(walked, verdict) {
                 *self.by_windows.entry(cell).or_default() += 1;
             }
         }
@@ -57,8 +62,10 @@ impl Coverage {
             _ => {
                 let depth = depth(octets, verdict);
                 *self.by_depth.entry((verdict.number, depth)).or_default() += 1;
-                let named = (verdict.number, verdict.vendor, verdict.code, depth);
-                *self.by_name_and_depth.entry(named).or_default() += 1;
+                if let Some(walked) = &walked {
+                    let named = (walked.command, verdict.number, verdict.vendor, verdict.code, depth);
+                    *self.by_name_and_depth.entry(named).or_default() += 1;
+                }
                 if verdict.number == number::INVALID_AVP_LENGTH && fits(octets, verdict) {
                     *self.widths_by_depth.entry(depth).or_default() += 1;
                 }
@@ -89,10 +96,10 @@ impl Coverage {
         self.widths_by_depth.get(&depth).copied().unwrap_or(0)
     }
 
-    /// How often a number occurred with this name at one of these depths.
-    pub(crate) fn times_named(&self, number: u32, kind: Kind, mut depths: RangeInclusive<u8>) -> u64 {
-        let times = |depth| self.by_name_and_depth.get(&(number, kind.vendor(), kind.code(), depth));
-        depths.by_ref().filter_map(times).sum()
+    /// How often a number occurred in such a command with this name at one of these depths.
+    pub(crate) fn times_named(&self, command: Command, number: u32, kind: Kind, depths: RangeInclusive<u8>) -> u64 {
+        let times = |depth| self.by_name_and_depth.get(&(command, number, kind.vendor(), kind.code(), depth));
+        depths.filter_map(times).sum()
     }
 
     /// How often the volumes of a command were as this cell says.
@@ -105,11 +112,16 @@ impl Coverage {
         self.by_windows.get(&cell).copied().unwrap_or(0)
     }
 
+    /// How often an error answer, or a command with the flags beside it, was as this cell says.
+    pub(crate) fn times_errors(&self, cell: error_coverage::Cell) -> u64 {
+        self.by_errors.get(&cell).copied().unwrap_or(0)
+    }
+
     fn accepted(&mut self, octets: &[u8]) {
         let record = crate::read(octets).record;
         let deepest = record.avps.iter().map(|avp| avp.depth).max().unwrap_or(0);
         *self.accepted_by_depth.entry(deepest).or_default() += 1;
-        self.requests += u64::from(record.r);
+        *self.accepted_by_command.entry(Command::of(record.r, record.e)).or_default() += 1;
         self.most_avps = self.most_avps.max(record.avps.len());
         self.longest = self.longest.max(octets.len());
     }
@@ -135,7 +147,9 @@ impl Display for Coverage {
                 for (depth, times) in &self.accepted_by_depth {
                     write!(f, " deepest {depth}: {times}")?;
                 }
-                write!(f, "; {} requests", self.requests)?;
+                for (command, times) in &self.accepted_by_command {
+                    write!(f, "; {command:?}: {times}")?;
+                }
                 write!(f, "; at most {} AVPs, {} octets", self.most_avps, self.longest)?;
             }
             writeln!(f)?;
@@ -167,6 +181,10 @@ impl Display for Coverage {
         writeln!(f, "windows:")?;
         for cell in window_coverage::Cell::all() {
             writeln!(f, "{:>8}  {cell:?}", self.times_windows(cell))?;
+        }
+        writeln!(f, "error answers:")?;
+        for cell in error_coverage::Cell::all() {
+            writeln!(f, "{:>8}  {cell:?}", self.times_errors(cell))?;
         }
         Ok(())
     }

@@ -28,6 +28,9 @@ pub enum Command {
 }
 
 impl Command {
+    /// All of them.
+    pub const ALL: [Command; 3] = [Command::Request, Command::Answer, Command::ErrorAnswer];
+
     /// What R and E say.
     pub const fn of(r: bool, e: bool) -> Command {
         match (r, e) {

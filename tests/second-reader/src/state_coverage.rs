@@ -1,6 +1,6 @@
-//! What a run of canonical forms reached: acceptance and 7004 by room, each of the reader's
-//! refusals with and without room, and pairs of commands by what they differ in. A run that lacks a
-//! cell has tested less than it says.
+//! What a run of canonical forms reached: acceptance and 7004 by room, error answers, each of the
+//! reader's refusals with and without room, and pairs of commands by what they differ in. A run that
+//! lacks a cell has tested less than it says.
 
 use crate::generate::drafts::{room, Room};
 use crate::generate::lists::{Change, Twins, CHANGES};
@@ -19,6 +19,8 @@ pub enum Cell {
     Padding,
     /// A form of a command with reserved command bits that are not 0.
     ReservedBits,
+    /// A form of an error answer, and whether P is set.
+    ErrorAnswer(bool),
     /// 7004.
     TooShort(Room),
     /// The reader's refusal, and whether the room is too short as well.
@@ -32,6 +34,7 @@ impl Cell {
     pub fn all() -> Vec<Cell> {
         let mut cells: Vec<Cell> = Room::ENOUGH.map(Cell::Accepted).into();
         cells.extend([Cell::Padding, Cell::ReservedBits]);
+        cells.extend([true, false].map(Cell::ErrorAnswer));
         cells.extend(Room::TOO_SHORT.map(Cell::TooShort));
         for number in number::ALL.into_iter().filter(|&number| number != number::ACCEPTED) {
             cells.extend([true, false].map(|short| Cell::Refused(number, short)));
@@ -62,6 +65,9 @@ impl StateCoverage {
                 }
                 if octets[4] & 0x0F != 0 {
                     self.count(Cell::ReservedBits);
+                }
+                if octets[4] & 0x20 != 0 {
+                    self.count(Cell::ErrorAnswer(octets[4] & 0x40 != 0));
                 }
             }
             number::OUTPUT_TOO_SHORT => self.count(Cell::TooShort(room)),

@@ -1,6 +1,6 @@
-//! A command as the coverage of volumes and windows sees it: its AVPs, and what a whole walk finds.
+//! A command as the coverage of volumes, windows and error answers sees it: its AVPs, and what a whole walk finds.
 
-use crate::dictionary::Kind;
+use crate::dictionary::{Form, Kind};
 use crate::header::{self, Command};
 use crate::record::Avp;
 use crate::verdict::Verdict;
@@ -42,6 +42,19 @@ impl Walked<'_> {
     pub fn value(&self, avp: &Avp) -> u32 {
         self.data(avp).try_into().map_or(0, u32::from_be_bytes)
     }
+
+    /// Whether a place lies in a read group.
+    pub fn is_within(&self, place: u32) -> bool {
+        self.avps.iter().any(|avp| {
+            let group = Kind::of(avp.vendor, avp.code).is_some_and(|kind| kind.form() == Form::Group);
+            group && (avp.start..avp.start + avp.length).contains(&place)
+        })
+    }
+}
+
+/// The first octet of an AVP.
+pub fn place(avp: &Avp) -> u32 {
+    avp.start - if avp.vendor == 0 { 8 } else { 12 }
 }
 
 /// The position of the group that an AVP stands in.

@@ -143,7 +143,7 @@ impl Cell {
         for right in [true, false] {
             cells.extend(HOLDERS.map(|kind| Within(kind, right)));
             cells.extend([0, 1].map(|request_type| Of(Request, Some(request_type), right)));
-            cells.push(Of(Answer, None, right));
+            cells.extend([Answer, ErrorAnswer].map(|command| Of(command, None, right)));
         }
         for arrangement in [Arrangement::Policies, Arrangement::Nested, Arrangement::Lists] {
             cells.extend(Pattern::all().into_iter().map(|pattern| Several(arrangement, pattern)));
@@ -225,6 +225,22 @@ pub(crate) fn cells(walked: &Walked, verdict: &Verdict) -> Vec<Cell> {
         cells.extend(rule.map(|&(command, number, kind)| Cell::BehindRule(command, number, kind)));
     }
     cells
+}
+
+/// Whether a window of the walk, as far as it went, is wrong.
+pub(crate) fn is_one_wrong(walked: &Walked) -> bool {
+    windows(walked).iter().any(Window::is_wrong)
+}
+
+/// The group that each window stands in, if any.
+pub(crate) fn holders(walked: &Walked) -> Vec<Option<Kind>> {
+    windows(walked).iter().map(|window| window.holder).collect()
+}
+
+/// The group, if any, that the window stands in which this verdict refuses.
+pub(crate) fn holder_at_fault(walked: &Walked, verdict: &Verdict) -> Option<Option<Kind>> {
+    let at_fault = |window: &Window| window.end_at == verdict.place + TIME_HEADER;
+    windows(walked).into_iter().find(at_fault).map(|window| window.holder)
 }
 
 /// Octets of the header of a time.

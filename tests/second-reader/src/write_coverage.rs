@@ -1,6 +1,6 @@
 //! What a run of write calls reached: each of 7006's ways, 7001 and 7004, each of the reader's
-//! refusals through the writer, and acceptance, by room, and the cells of volumes and windows. A run
-//! that lacks a cell has tested less than it says.
+//! refusals through the writer, and acceptance, by room, and the cells of volumes, windows and error
+//! answers. A run that lacks a cell has tested less than it says.
 
 use crate::draft::{Draft, Place};
 use crate::generate::drafts::{is_accepted, room, Case, Origin, Room, Way};
@@ -9,7 +9,7 @@ use crate::record::MOST_AVPS;
 use crate::verdict::number;
 use crate::walked::Walked;
 use crate::writer::{encode, length, Written};
-use crate::{volume_coverage, window_coverage};
+use crate::{error_coverage, volume_coverage, window_coverage};
 use std::collections::BTreeMap;
 use std::fmt::{self, Display, Formatter};
 
@@ -84,6 +84,10 @@ pub enum Cell {
     Volumes(volume_coverage::Cell),
     /// The same by its windows.
     Windows(window_coverage::Cell),
+    /// The same of error answers.
+    Errors(error_coverage::Cell),
+    /// Acceptance of an error answer of this origin, and whether P is set.
+    ErrorAnswer(Origin, bool),
 }
 
 impl Cell {
@@ -107,6 +111,12 @@ impl Cell {
         cells.extend(features.map(Cell::AcceptedWith));
         cells.extend(volume_coverage::Cell::all().into_iter().map(Cell::Volumes));
         cells.extend(window_coverage::Cell::all().into_iter().map(Cell::Windows));
+        // A draft has no 257th AVP.
+        let crowded = error_coverage::Cell::Walk(number::TOO_MANY_AVPS);
+        cells.extend(error_coverage::Cell::all().into_iter().filter(|&cell| cell != crowded).map(Cell::Errors));
+        for p in [true, false] {
+            cells.extend(Origin::SOUND.map(|origin| Cell::ErrorAnswer(origin, p)));
+        }
         cells
     }
 }
@@ -150,21 +160,25 @@ fn cells(case: &Case, answer: &Written) -> Vec<Cell> {
         number::OUTPUT_TOO_SHORT => vec![Cell::TooShort(room, !is_accepted(draft, octets))],
         number::ACCEPTED => {
             let features = features(draft, octets).into_iter().map(Cell::AcceptedWith);
-            features.chain(rules(case, answer)).chain([Cell::Accepted(case.origin, room)]).collect()
+            let error = (draft.e == 1).then_some(Cell::ErrorAnswer(case.origin, draft.p == 1));
+            let accepted = [Cell::Accepted(case.origin, room)].into_iter().chain(error);
+            features.chain(rules(case, answer)).chain(accepted).collect()
         }
         number => rules(case, answer).into_iter().chain([Cell::Refused(number, room)]).collect(),
     }
 }
 
-/// The cells of volumes and windows.
+/// The cells of volumes, windows and error answers.
 fn rules(case: &Case, answer: &Written) -> Vec<Cell> {
     let command = encode(&case.draft, &case.octets);
-    let Some(walked) = Walked::of(&command) else {
-        return Vec::new();
+    let walked = Walked::of(&command);
+    let errors = error_coverage::cells(&command, walked.as_ref(), &answer.verdict).into_iter().map(Cell::Errors);
+    let Some(walked) = &walked else {
+        return errors.collect();
     };
-    let volumes = volume_coverage::cells(&walked, &answer.verdict).into_iter().map(Cell::Volumes);
-    let windows = window_coverage::cells(&walked, &answer.verdict).into_iter().map(Cell::Windows);
-    volumes.chain(windows).collect()
+    let volumes = volume_coverage::cells(walked, &answer.verdict).into_iter().map(Cell::Volumes);
+    let windows = window_coverage::cells(walked, &answer.verdict).into_iter().map(Cell::Windows);
+    errors.chain(volumes).chain(windows).collect()
 }
 
 fn excess(length: u64) -> Excess {
