@@ -79,7 +79,10 @@ fn draft_changed(change: Change, draft: &Draft, octets: &[u8], prng: &mut Prng) 
             let octet = place.start as usize + prng.below(place.length as usize);
             octets[octet] ^= 1 << prng.below(8);
         }
-        Change::CommandFlag => draft.t ^= 1,
+        Change::Retransmitted => draft.t ^= 1,
+        Change::Proxiable if draft.e == 1 => draft.p ^= 1,
+        // Without E, P is set.
+        Change::Error if draft.r == 0 && draft.p == 1 => draft.e ^= 1,
         Change::AvpFlag if prng.one_in(2) => draft.used_mut().get_mut(at)?.p ^= 1,
         Change::AvpFlag => draft.used_mut().get_mut(at)?.m ^= 1,
         Change::Identifier if prng.one_in(2) => draft.hop_by_hop ^= 1 << prng.below(32),

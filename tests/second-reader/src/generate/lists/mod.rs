@@ -28,7 +28,11 @@ pub enum Change {
     /// In one data octet.
     DataOctet,
     /// In the command flag T.
-    CommandFlag,
+    Retransmitted,
+    /// In the command flag P of an error answer.
+    Proxiable,
+    /// In the command flag E of an answer.
+    Error,
     /// In one AVP's M or P.
     AvpFlag,
     /// In one identifier.
@@ -52,9 +56,11 @@ impl Change {
     pub const KEEPING: [Change; 5] =
         [Change::Nothing, Change::Starts, Change::Source, Change::Refusals, Change::Lender];
     /// Changes after which they are not.
-    pub const TELLING: [Change; 10] = [
+    pub const TELLING: [Change; 12] = [
         Change::DataOctet,
-        Change::CommandFlag,
+        Change::Retransmitted,
+        Change::Proxiable,
+        Change::Error,
         Change::AvpFlag,
         Change::Identifier,
         Change::Name,

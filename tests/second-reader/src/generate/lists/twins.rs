@@ -7,10 +7,12 @@ use crate::generate::drafts::accepted;
 use crate::generate::prng::Prng;
 
 /// What one command can differ in from another; of these only nothing keeps the meaning.
-pub const CHANGES: [Change; 9] = [
+pub const CHANGES: [Change; 11] = [
     Change::Nothing,
     Change::DataOctet,
-    Change::CommandFlag,
+    Change::Retransmitted,
+    Change::Proxiable,
+    Change::Error,
     Change::AvpFlag,
     Change::Identifier,
     Change::Name,
