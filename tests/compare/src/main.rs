@@ -1,4 +1,4 @@
-//! Compares the proved reader, over its boundary, with the second reader on a command for each name and on generated
+//! Compares the proved reader, over its boundary, with the second reader on two commands for each name and on generated
 //! commands: the verdict, the whole record, the data of every position and the search; the seconds between two
 //! generated times with each command; and the search on made-up records.
 //!
