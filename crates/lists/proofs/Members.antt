@@ -8,6 +8,7 @@ use native.Mathlib.Omega.{arith}
 use native.Mathlib.Nat.{add-zero, sub-zero}
 use borrow.Author.Tests.{lt-ltb, le-ltb, ltb-true, ne-eqb}
 use lib.Dec.{eqb, ltb}
+use lib.ListN.{getD}
 use Rattle.rules.specs.declared.Avp.{Avp}
 use Rattle.rules.specs.declared.CommandRules.{CommandRules}
 use Rattle.rules.specs.declared.Grammar.{Grammar}
@@ -16,12 +17,15 @@ use Rattle.rules.specs.declared.Members.the-variants.{Under, NoMembers}
 use Rattle.rules.specs.declared.Verdict.{Verdict}
 use Rattle.rules.specs.declared.Outcome.{Outcome}
 use Rattle.rules.specs.declared.Outcome.the-variants.{Pass, Refused}
+use Rattle.rules.specs.declared.Mark.{Mark}
+use Rattle.rules.specs.declared.Mark.the-variants.{First, FirstIfPresent, Once, AtMostOnce, AnyNumber}
 use Rattle.rules.specs.declared.Admission.{Admission}
+use Rattle.rules.specs.declared.Admission.the-variants.{ByRow, NoRow}
 use Rattle.rules.specs.Verdict.{orElse}
 use Rattle.rules.specs.Header.{vendor3GPP}
 use Rattle.rules.specs.Rows.{admitsOthers}
 use Rattle.rules.specs.Dictionary.{dictionary, membersOf}
-use Rattle.rules.specs.RowChecks.{counted, byAdmission, missing}
+use Rattle.rules.specs.RowChecks.{counted, byMark, byAdmission, missing}
 use Rattle.rules.specs.Exchange.{exchangeBy}
 use Rattle.rules.proofs.Outcomes.{refused-first, or-pass, or-assoc}
 use Rattle.dictionary.specs.Entries.{numberWhere, entryOf, definitionAt}
@@ -29,11 +33,30 @@ use Rattle.log.specs.Log.{Logged}
 use Rattle.exchange.specs.Firsts.{findIn}
 use Rattle.lists.specs.ByLog.{admissionAt, loggedMembers, membersBy, listBy, groupAt, firstFault, rowsBy}
 use Rattle.lists.specs.Firsts.{noFirsts, firstsFrom}
+use Rattle.lists.specs.Tables.{markOfMember, forMember}
 use Rattle.lists.specs.Exchanges.{isPolicy, policyNumberFrom, policyLogged, windowLogged, listsBy}
 
 -- what is left of a list from position i on, with the counts so far
 abbrev pub leftBy : (ℕ → Logged) → ℕ → Grammar → ℕ → List ℕ → Bool → ℕ → Outcome
 leftBy at stop g end counts first i = membersBy g end counts first (loggedMembers (stop - i) at i stop)
+
+-- ---- a member is judged and counted by what its row's mark says of a member
+
+mark-alike : (mark : Mark) (met first : Bool) (a : Avp) → byMark (markOfMember mark) met first a ≡ byMark mark met first a
+mark-alike First met first a = refl
+mark-alike FirstIfPresent met first a = refl
+mark-alike Once met first a = refl
+mark-alike AtMostOnce met first a = refl
+mark-alike AnyNumber met first a = refl
+
+member-alike : (others : Bool) (counts : List ℕ) (first : Bool) (a : Avp) (m : Admission)
+    → byAdmission others counts first a (forMember m) ≡ byAdmission others counts first a m
+member-alike others counts first a (ByRow row mark) = mark-alike mark (ltb 0 (getD counts row 0)) first a
+member-alike others counts first a NoRow = refl
+
+counted-alike : (counts : List ℕ) (m : Admission) → counted counts (forMember m) ≡ counted counts m
+counted-alike counts (ByRow row mark) = refl
+counted-alike counts NoRow = refl
 
 module _ (at : ℕ → Logged) where
   -- ---- the members of a list
@@ -76,12 +99,20 @@ module _ (at : ℕ → Logged) where
           (logged-members-enough (stop - i - 1) (stop - at i .after) (at i .after) (omega (arith, onward i h)) (omega arith))
 
       module _ (g : Grammar) (end : ℕ) (counts : List ℕ) (first : Bool) (i : ℕ) where
-        -- the member at the position, with the row that names it and what that says
-        pub members-next : i < stop → (l : Logged) (m : Admission) (o : Outcome) → l ≡ at i → m ≡ admissionAt g (l .entry)
+        -- the member at the position, with the row that names it and what that says of a member
+        pub members-next : i < stop → (l : Logged) (m : Admission) (o : Outcome) → l ≡ at i → m ≡ forMember (admissionAt g (l .entry))
             → o ≡ byAdmission (admitsOthers g) counts first (l .avp) m
             → leftBy at stop g end counts first i ≡ orElse o (leftBy at stop g end (counted counts m) false (l .after))
         unfolding membersBy
-        members-next h l m o e p q = rw (logged-members-first i h, q, p, e)
+        members-next h l m o e p q =
+            rw (
+              logged-members-first i h,
+              q,
+              p,
+              member-alike (admitsOthers g) counts first (l .avp) (admissionAt g (l .entry)),
+              counted-alike counts (admissionAt g (l .entry)),
+              e,
+            )
 
     pub members-none : (g : Grammar) (end : ℕ) (counts : List ℕ) (first : Bool) (i : ℕ) → stop ≤ i
         → leftBy at stop g end counts first i ≡ missing g counts end

@@ -25,7 +25,7 @@ use Rattle.rules.proofs.Names.{Absent}
 use Rattle.dictionary.proofs.Entries.{said-behind}
 use Rattle.dictionary.specs.Entries.{saidAt, vendorOf, codeOf}
 use Rattle.lists.specs.ByLog.{admissionAt}
-use Rattle.lists.specs.Tables.{lists, listAt, ListAt, entryPlaces, rowPlaces, markAt, admissionIn, AdmissionTable, Admits, Requirement, requirementOf, freeRow, requirementIn, endOfRows, requirementsFrom, RowTable, missingAmong}
+use Rattle.lists.specs.Tables.{lists, listAt, ListAt, entryPlaces, rowPlaces, forMember, markAt, admissionIn, AdmissionTable, Admits, Requirement, requirementOf, freeRow, requirementIn, endOfRows, requirementsFrom, RowTable, missingAmong}
 
 -- ---- what holds at each number below n, as one equation
 
@@ -47,7 +47,7 @@ abbrev pub saidBy : List ℕ → ℕ → ℕ → Admission
 saidBy table n entry = admissionIn (getD table (n * entryPlaces + entry) 0)
 
 abbrev pub wanted : ℕ → ℕ → Admission
-wanted n = admissionAt (listAt n)
+wanted n entry = forMember (admissionAt (listAt n) entry)
 
 -- of all entries
 abbrev pub ofAll : (ℕ → ℕ → Admission) → ℕ → List Admission
@@ -58,7 +58,7 @@ pub admission-rule : (table : List ℕ) → valuesBelow (length lists) (ofAll (s
 admission-rule table e = record {
   rule = λ g n entry at below.
       let list = same-below (length lists) (ofAll (saidBy table)) (ofAll wanted) e n (at .below) in
-      same-below entryPlaces (saidBy table n) (wanted n) list entry below ∙ ap (λ (g : Grammar). admissionAt g entry) (at .is);
+      same-below entryPlaces (saidBy table n) (wanted n) list entry below ∙ ap (λ (g : Grammar). forMember (admissionAt g entry)) (at .is);
 }
 
 abbrev pub requirementsIn : List ℕ → ℕ → List Requirement
@@ -77,12 +77,11 @@ row-rule table e = record {
 -- ---- what a number says
 
 -- the arm `_` of a `match` on a mark's number
-pub mark-other : (n : ℕ) → Absent (3 ∷ 2 ∷ 1 ∷ 0 ∷ []) n → AnyNumber ≡ markAt n
-mark-other zero h = absurd (h .0 .0 .0 .1 refl)
-mark-other (suc zero) h = absurd (h .0 .0 .1 refl)
-mark-other (suc (suc zero)) h = absurd (h .0 .1 refl)
-mark-other (suc (suc (suc zero))) h = absurd (h .1 refl)
-mark-other (suc (suc (suc (suc n)))) h = refl
+pub mark-other : (n : ℕ) → Absent (2 ∷ 1 ∷ 0 ∷ []) n → AnyNumber ≡ markAt n
+mark-other zero h = absurd (h .0 .0 .1 refl)
+mark-other (suc zero) h = absurd (h .0 .1 refl)
+mark-other (suc (suc zero)) h = absurd (h .1 refl)
+mark-other (suc (suc (suc n))) h = refl
 
 row-below : (number row : ℕ) (mark : Mark) (none : Bool) → leb rowPlaces (number % 32) ≡ none
     → cond none NoRow (ByRow (number % 32) (markAt (number / 32))) ≡ ByRow row mark → row < rowPlaces
@@ -104,7 +103,7 @@ admits-by table is g n entry r at h e = record {
 pub admits-none : (g : Grammar) (entry : ℕ) → entryPlaces ≤ entry → Admits g entry NoRow
 unfolding admissionAt
 admits-none g entry h = record {
-  is = sym (said-behind NoRow _ dictionary entry h);
+  is = ap forMember (sym (said-behind NoRow _ dictionary entry h));
   below = λ row mark p. let z : _≡_ {A = ℕ} 0 1 = cc in absurd (omega arith);
 }
 

@@ -25,8 +25,8 @@ use Rattle.lists.specs.ByLog.{admissionAt}
 -- the lists in the order of the tables
 abbrev pub lists : List Grammar
 lists =
-    Request ∷ Answer ∷ ErrorAnswer ∷ VendorSpecificApplicationId ∷ ExperimentalResult ∷ ProxyInfo ∷ SupportedFeatures ∷
-    TimeWindow ∷ TransferPolicy ∷ []
+    Request ∷ Answer ∷ VendorSpecificApplicationId ∷ ExperimentalResult ∷ ProxyInfo ∷ SupportedFeatures ∷ TimeWindow ∷
+    TransferPolicy ∷ ErrorAnswer ∷ []
 
 abbrev pub listAt : ℕ → Grammar
 listAt n = getD lists n Request
@@ -43,15 +43,26 @@ entryPlaces = length dictionary
 abbrev pub rowPlaces : ℕ
 rowPlaces = 24
 
--- a mark by its number
-abbrev pub markAt : ℕ → Mark
-markAt zero = First
-markAt (suc zero) = FirstIfPresent
-markAt (suc (suc zero)) = Once
-markAt (suc (suc (suc zero))) = AtMostOnce
-markAt (suc (suc (suc (suc n)))) = AnyNumber
-
 -- ---- the table over the entries
+
+-- what a mark says of a member; whether the row must be met is no part of it
+abbrev pub markOfMember : Mark → Mark
+markOfMember First = FirstIfPresent
+markOfMember FirstIfPresent = FirstIfPresent
+markOfMember Once = Once
+markOfMember AtMostOnce = AtMostOnce
+markOfMember AnyNumber = AnyNumber
+
+abbrev pub forMember : Admission → Admission
+forMember (ByRow row mark) = ByRow row (markOfMember mark)
+forMember NoRow = NoRow
+
+-- such a mark by its number
+abbrev pub markAt : ℕ → Mark
+markAt zero = FirstIfPresent
+markAt (suc zero) = Once
+markAt (suc (suc zero)) = AtMostOnce
+markAt (suc (suc (suc n))) = AnyNumber
 
 -- a number is so many times a mark, and a row; from 24 on it is no row
 abbrev pub admissionMark : ℕ
@@ -64,11 +75,11 @@ admissionIn number =
 
 pub record AdmissionTable (table : List ℕ) : Type 0 where
   pub rule : (g : Grammar) (n entry : ℕ) → ListAt g n → entry < entryPlaces
-      → admissionIn (getD table (n * entryPlaces + entry) 0) ≡ admissionAt g entry
+      → admissionIn (getD table (n * entryPlaces + entry) 0) ≡ forMember (admissionAt g entry)
 
 -- what a lookup promises: the row that names an entry in a list, and that the row has a count
 pub record Admits (g : Grammar) (entry : ℕ) (r : Admission) : Type 0 where
-  pub is : r ≡ admissionAt g entry
+  pub is : r ≡ forMember (admissionAt g entry)
   pub below : (row : ℕ) (mark : Mark) → r ≡ ByRow row mark → row < rowPlaces
 
 -- ---- the table of the rows in the printed order

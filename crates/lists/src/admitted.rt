@@ -1,5 +1,5 @@
 // What a list admits (01, Rows): an AVP by the row that names it, found by the number of its entry; and whether AVPs
-// that no row names.
+// that no row names. Of a mark only what it says of a member matters here.
 ghost use mathlib.Core.Path.{_≡_};
 ghost use Rattle.rules.specs.Rows.{admitsOthers};
 ghost use Rattle.lists.specs.Tables.{markAt, admissionIn, AdmissionTable, Admits};
@@ -10,10 +10,8 @@ use rules::Admission;
 use rules::Grammar;
 use rules::Mark;
 
-// The marks by their numbers, that of any number being the last.
+// The marks of a member by their numbers, that of any number being the last.
 const FIRST: u8 = admission_table::FIRST / admission_table::MARK;
-
-const FIRST_IF_PRESENT: u8 = admission_table::FIRST_IF_PRESENT / admission_table::MARK;
 
 const ONCE: u8 = admission_table::ONCE / admission_table::MARK;
 
@@ -23,8 +21,7 @@ fn mark_of(number: u8) -> Mark
     ensures { λ r. ⌜ r ≡ markAt number ⌝ }
 {
     match number {
-        FIRST => Mark::First,
-        FIRST_IF_PRESENT => Mark::FirstIfPresent,
+        FIRST => Mark::FirstIfPresent,
         ONCE => Mark::Once,
         AT_MOST_ONCE => Mark::AtMostOnce,
         _ => Mark::AnyNumber,
@@ -68,12 +65,12 @@ pub(crate) fn admits_others(grammar: Grammar) -> bool
     match grammar {
         Grammar::Request => true,
         Grammar::Answer => true,
-        Grammar::ErrorAnswer => true,
         Grammar::VendorSpecificApplicationId => false,
         Grammar::ExperimentalResult => false,
         Grammar::ProxyInfo => true,
         Grammar::SupportedFeatures => true,
         Grammar::TimeWindow => true,
         Grammar::TransferPolicy => true,
+        Grammar::ErrorAnswer => true,
     }
 }

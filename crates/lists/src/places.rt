@@ -13,12 +13,12 @@ pub(crate) fn list_index(grammar: Grammar) -> usize
     match grammar {
         Grammar::Request => 0,
         Grammar::Answer => 1,
-        Grammar::ErrorAnswer => 2,
-        Grammar::VendorSpecificApplicationId => 3,
-        Grammar::ExperimentalResult => 4,
-        Grammar::ProxyInfo => 5,
-        Grammar::SupportedFeatures => 6,
-        Grammar::TimeWindow => 7,
-        Grammar::TransferPolicy => 8,
+        Grammar::VendorSpecificApplicationId => 2,
+        Grammar::ExperimentalResult => 3,
+        Grammar::ProxyInfo => 4,
+        Grammar::SupportedFeatures => 5,
+        Grammar::TimeWindow => 6,
+        Grammar::TransferPolicy => 7,
+        Grammar::ErrorAnswer => 8,
     }
 }

@@ -69,17 +69,17 @@ pub struct Sought {
     pub number: usize,
 }
 
-// The lists that have rows: the request, the answer, the answer with E (02, [1]), and each grouped AVP that is read.
+// The lists that have rows: the request, the answer, each grouped AVP that is read, and the answer with E (02, [1]).
 pub enum Grammar {
     Request,
     Answer,
-    ErrorAnswer,
     VendorSpecificApplicationId,
     ExperimentalResult,
     ProxyInfo,
     SupportedFeatures,
     TimeWindow,
     TransferPolicy,
+    ErrorAnswer,
 }
 
 // The exchange rules that apply to a command: those of a request or of an answer, each with the window rule; or the
