@@ -96,9 +96,10 @@ extern "C" {
  * 7009 and the writer's 7001 have place 0 too.
  *
  * An error answer, which has E set and R clear, is judged by the general form of RFC 6733, clause 7.2: Session-Id (263)
- * at most once and as the first AVP, Origin-Host (264), Origin-Realm (296) and Result-Code (268) once, whatever its
- * value. Of the rules that are named above it has that of the Time-Window alone. P may be clear in it: 3008 is for E
- * with R, and for a clear P without E. */
+ * at most once, and first if present; Origin-Host (264), Origin-Realm (296) and Result-Code (268), of any value, once;
+ * Origin-State-Id (278), Error-Message (281), Error-Reporting-Host (294), Failed-AVP (279) and Experimental-Result (297)
+ * at most once; Proxy-Info (284) and any others in any number. Of the rules on 5008 and 5004 just named only that of the
+ * Time-Window applies to it. P may be clear in it: 3008 is for E with R, and for a clear P without E. */
 struct TalazumirVerdict {
     uint32_t number;
     uint32_t place;

@@ -1,5 +1,5 @@
--- What request [1] claims of answers with E (proofs/demands/ErrorAnswers), and such answers with their verdicts,
--- computed. xs are the AVPs of the command's walk.
+-- What request [1] claims of answers with E (proofs/demands/ErrorAnswers), and such answers, with commands of the flags
+-- beside theirs, and their verdicts, computed. xs are the AVPs of the command's walk.
 use mathlib.Core.Path.{_≡_, refl}
 use mathlib.Core.Bool.{true, false}
 use mathlib.Core.List.{List, [], _∷_, _++_}
@@ -21,11 +21,11 @@ use Rattle.rules.specs.Exchange.{windowIn, eachWindow, exchangeBy}
 use Rattle.rules.specs.Search.{positionsFrom}
 use Rattle.rules.specs.Command.{rulesBy, walkOf, listsOutcome, commandOutcome, commandVerdict}
 use Rattle.rules.specs.Windows.{AllRight}
-use Rattle.rules.specs.Edges.{header, avp, avpOf3GPP, letter, vendorId, windowOf, policyOf, proxyOf, Case, case, answers, verdicts}
+use Rattle.rules.specs.Edges.{header, avp, avpOf3GPP, letter, vendorId, volumeOf, windowOf, policyOf, proxyOf, Case, case, answers, verdicts}
 
 -- ---- what is claimed
 
--- the header of a command whose length and application pass, by its command flags
+-- the header of a command whose length, version, application and command code pass, by its command flags
 pub record FlagsJudged (c : List ℕ) : Type 0 where
   -- R and E
   pub both : isRequest (commandFlags c) ≡ true → isError (commandFlags c) ≡ true
@@ -38,7 +38,7 @@ pub record FlagsJudged (c : List ℕ) : Type 0 where
   -- P set without E
   pub proxiable : isProxiable (commandFlags c) ≡ true → isError (commandFlags c) ≡ false → headerOutcome c ≡ Pass
 
--- an answer with E whose length and application pass
+-- an answer with E whose length, version, application and command code pass
 pub record IsErrorAnswer (c : List ℕ) : Type 0 where
   pub long : lengthOutcome c ≡ Pass
   pub known : applicationOutcome c ≡ Pass
@@ -94,6 +94,24 @@ failed = avp 279 0x40 9 (letter 0x66)
 unfoldable pub experimental : List ℕ
 experimental = avp 297 0x40 32 (vendorId ++ avp 298 0x40 12 (octets 4 1))
 
+-- two of each AVP of a list of codes
+unfoldable pub twoOfEach : (ℕ → List ℕ) → List ℕ → List ℕ
+twoOfEach avpOf [] = []
+twoOfEach avpOf (code ∷ codes) = avpOf code ++ avpOf code ++ twoOfEach avpOf codes
+
+-- two of each name of the dictionary that has no row in the general form: 1,240 octets
+unfoldable pub others : List ℕ
+others =
+    twoOfEach (λ code. avp code 0x40 12 (octets 4 1)) (258 ∷ 259 ∷ 261 ∷ 262 ∷ 266 ∷ 277 ∷ 298 ∷ 301 ∷ 432 ∷ [])
+    ++ twoOfEach (λ code. avp code 0x40 9 (letter 0x61)) (33 ∷ 280 ∷ 282 ∷ 283 ∷ 292 ∷ 293 ∷ 621 ∷ 623 ∷ 650 ∷ [])
+    ++ twoOfEach volumeOf (412 ∷ 414 ∷ 421 ∷ [])
+    ++ twoOfEach (λ code. avpOf3GPP code 0xC0 16 (octets 4 1)) (515 ∷ 516 ∷ 629 ∷ 630 ∷ 4203 ∷ 4205 ∷ 4206 ∷ 4208 ∷ 4209 ∷ [])
+    ++ twoOfEach (λ code. avpOf3GPP code 0xC0 13 (letter 0x61)) (532 ∷ 2207 ∷ 4201 ∷ 4202 ∷ [])
+    ++ twoOfEach (λ code. avp code 0x40 20 vendorId) (260 ∷ [])
+    ++ twoOfEach (λ code. avpOf3GPP code 0xC0 56 (vendorId ++ avpOf3GPP 629 0xC0 16 (octets 4 1) ++ avpOf3GPP 630 0xC0 16 (octets 4 1)))
+    (628 ∷ [])
+    ++ windowOf 10 11 ++ windowOf 10 11 ++ policyOf 28 [] ++ policyOf 28 []
+
 unfoldable pub erred : List Case
 erred =
     -- P set, P clear, T set
@@ -109,10 +127,12 @@ erred =
     ∷ case (errorAnswer 68 (session ++ three)) 0 0 0 0
     ∷ case (errorAnswer 44 (host ++ session)) 5008 32 0 263
     ∷ case (errorAnswer 80 (session ++ session ++ three)) 5009 32 0 263
-    -- 264, 296 and 268 missing, the last beside 297; 268 beside 297
+    -- 264, 296 and 268 missing, the last beside 297; two of them missing; 268 beside 297
     ∷ case (errorAnswer 44 (session ++ realm)) 5005 44 0 264
     ∷ case (errorAnswer 44 (host ++ result)) 5005 44 0 296
     ∷ case (errorAnswer 76 (host ++ realm ++ experimental)) 5005 76 0 268
+    ∷ case (errorAnswer 32 result) 5005 32 0 264
+    ∷ case (errorAnswer 32 host) 5005 32 0 296
     ∷ case (errorAnswer 88 (three ++ experimental)) 0 0 0 0
     -- each of them twice
     ∷ case (errorAnswer 68 (three ++ host)) 5009 56 0 264
@@ -126,11 +146,11 @@ erred =
     ∷ case (errorAnswer 80 (three ++ reporter ++ reporter)) 5009 68 0 294
     ∷ case (errorAnswer 80 (three ++ failed ++ failed)) 5009 68 0 279
     ∷ case (errorAnswer 120 (three ++ experimental ++ experimental)) 5009 88 0 297
-    -- any others in any number: two 301, and two of a name that the dictionary lacks; with M that is 5001
-    ∷ case (errorAnswer 96 (three ++ avp 301 0 12 (octets 4 0) ++ avp 301 0 12 (octets 4 0) ++ avp 9999 0 8 [] ++ avp 9999 0 8 []))
-    0 0 0 0
+    -- any others in any number, of the dictionary and not; with M a name that it lacks is 5001
+    ∷ case (errorAnswer 1296 (three ++ others)) 0 0 0 0
+    ∷ case (errorAnswer 72 (three ++ avp 9999 0 8 [] ++ avp 9999 0 8 [])) 0 0 0 0
     ∷ case (errorAnswer 64 (three ++ avp 9999 0x40 8 [])) 5001 56 0 9999
-    -- two 4207 ask for nothing, their windows are asked; so is one at depth 1, once the rows are met
+    -- two 4207 ask for nothing; their windows are judged, and so is one at depth 1, once the rows are met
     ∷ case (errorAnswer 156 (three ++ policyOf 28 [] ++ policyOf 72 (windowOf 10 11))) 0 0 0 0
     ∷ case (errorAnswer 156 (three ++ policyOf 28 [] ++ policyOf 72 (windowOf 11 10))) 5004 140 vendor3GPP 4205
     ∷ case (errorAnswer 100 (windowOf 10 10 ++ three)) 5004 48 vendor3GPP 4205
@@ -141,5 +161,5 @@ erred =
 
 -- each has its answer
 pub error-edges : verdicts erred ≡ answers erred
-unfolding verdicts answers case header avp avpOf3GPP vendorId windowOf policyOf proxyOf withFlags session host realm result three state message reporter failed experimental erred octets numberAt padded lengthOutcome applicationOutcome flagsOutcome headerOutcome avpAt rowsOf admitsOthers dictionary find framing wrongFlags unsupported wrongWidth wrongValue tooDeep contents checked walkAvp walkList admissionFrom memberOutcome missingFrom membersOutcome membersAt groupsOutcome rowsOutcome positionsFrom moment isBefore windowIn eachWindow exchangeBy rulesBy walkOf listsOutcome commandOutcome commandVerdict
+unfolding verdicts answers case header avp avpOf3GPP vendorId volumeOf windowOf policyOf proxyOf withFlags session host realm result three state message reporter failed experimental twoOfEach others erred octets numberAt padded lengthOutcome applicationOutcome flagsOutcome headerOutcome avpAt rowsOf admitsOthers dictionary find framing wrongFlags unsupported wrongWidth wrongValue tooDeep contents checked walkAvp walkList admissionFrom memberOutcome missingFrom membersOutcome membersAt groupsOutcome rowsOutcome positionsFrom moment isBefore windowIn eachWindow exchangeBy rulesBy walkOf listsOutcome commandOutcome commandVerdict
 error-edges = refl

@@ -44,7 +44,7 @@ fitsTable v =
     && unnamed 7002 v
 
 -- the checks over the AVPs of a command's walk, in 01's order: the rows of the command's own list, those of each group,
--- the exchange rules of the request or the answer, which an answer with E has not, the windows
+-- the exchange rules but for the windows, of which an answer with E has none, the windows
 abbrev pub ownRows : List ℕ → List Avp → Outcome
 ownRows c xs = listOutcome (commandRules c .rows) 1 (length c) xs
 

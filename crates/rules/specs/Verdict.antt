@@ -17,7 +17,7 @@ readerNumbers =
     ∷ 5001 ∷ 5004 ∷ 5005 ∷ 5008 ∷ 5009
     -- version, AVP length, command length
     ∷ 5011 ∷ 5014 ∷ 5015
-    -- longer than 16,384, which the writer says too; 257th AVP, group at depth 4
+    -- longer than 16,384, which the writer says too; 257th AVP, group at depth 4. 02, [1]: 01's 7005 is not given
     ∷ 7001 ∷ 7002 ∷ 7003 ∷ []
 
 -- the table's numbers that the reader of a command never gives: output too short, malformed draft

@@ -1,4 +1,5 @@
-//! The proved reader and writer of Nt commands (TS 29.154, Background-Data-Transfer request and answer) as safe Rust.
+//! The proved reader and writer of Nt commands (TS 29.154, Background-Data-Transfer request and answer, and the error
+//! answers to the request) as safe Rust.
 //!
 //! The answers come from the archive that `rt staticlib boundary` proves and builds; this crate only hands over slices
 //! and arrays. `include/talazumir.h` has the table of verdict numbers, and the stack that each call takes: 52 KiB at

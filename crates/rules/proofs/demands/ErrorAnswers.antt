@@ -27,13 +27,13 @@ use Rattle.rules.proofs.demands.Windows.{pass-all-right, request-5-refu
 
 -- ---- the header
 
--- where length and application pass, the command flags are the answer
+-- where length, version, application and command code pass, the command flags are the answer
 by-flags : (c : List ℕ) → lengthOutcome c ≡ Pass → applicationOutcome c ≡ Pass → headerOutcome c ≡ flagsOutcome (commandFlags c)
 unfolding headerOutcome
 by-flags c long known = rw (long, known)
 
 -- 02 [1]: "P may be clear here [...] 3008 for a clear P only without E or with R", and R with E is 3008 as before.
--- Carried by the definition of flagsOutcome alone; the four cases are all that there are.
+-- Carried by the definitions of headerOutcome and flagsOutcome alone; the four cases are all that there are.
 -- Ruled out: a reader that refuses a clear P with E; one that reads a request with E as an error answer.
 pub request-1-flags : (c : List ℕ) → lengthOutcome c ≡ Pass → applicationOutcome c ≡ Pass → FlagsJudged c
 unfolding flagsOutcome
@@ -93,15 +93,16 @@ module _ (c : List ℕ) (is : IsErrorAnswer c) where
 
   -- 02 [1]: "Judge an answer with E by the general form of RFC 6733 clause 7.2", its groups by their rows and its windows
   -- by the window rule: such an answer is accepted exactly if it meets them, whatever P and T.
-  -- Carried by demand-2-accepted, passed-command (rules/proofs/Commands) and request-5-accepted (Windows).
+  -- Carried by request-1-flags, request-1-rules, demand-2-accepted, passed-command (rules/proofs/Commands),
+  -- request-5-accepted and pass-all-right (Windows).
   -- Ruled out: a reader that asks such an answer for 260 or 277; one that lets its windows pass.
   pub request-1-accepted : AcceptedCommand c ↔ ((xs : List Avp) × MeetsGeneralForm c xs)
   request-1-accepted = (meets-form, λ m. accepts (m .0) (m .1))
 
   -- And where only its windows are at fault, the first wrong one in walk order is refused at its 4205.
-  -- Carried by request-5-refused (Windows).
-  -- Ruled out: a reader that asks only requests and answers without E for their windows; one that asks those at depth
-  -- 1 alone.
+  -- Carried by request-1-flags, request-1-rules and request-5-refused (Windows).
+  -- Ruled out: a reader that judges only the windows of requests and of answers without E; one that judges those at
+  -- depth 1 alone.
   pub request-1-window : (xs : List Avp) → walkOf c ≡ whole xs → ownRows c xs ≡ Pass → groupRows c xs ≡ Pass
       → (k j : ℕ) → RightBefore c xs k → WrongWindow c xs k j
       → commandVerdict c ≡ verdict 5004 (placeOf (avpIn xs j)) vendor3GPP 4205
