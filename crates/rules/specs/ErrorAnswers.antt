@@ -7,7 +7,8 @@ use Prim.Native.Nat.{ℕ}
 use lib.ListN.{length}
 use Rattle.rules.specs.declared.Avp.{Avp}
 use Rattle.rules.specs.declared.Outcome.the-variants.{Pass}
-use Rattle.rules.specs.declared.Grammar.the-variants.{ErrorAnswer}
+use Rattle.rules.specs.declared.Grammar.the-variants.{Request, Answer, ErrorAnswer}
+use Rattle.rules.specs.declared.ExchangeRules.the-variants.{OfRequest, OfAnswer, WindowsAlone}
 use Rattle.rules.specs.Octets.{octets, numberAt, padded}
 use Rattle.rules.specs.Verdict.{refused}
 use Rattle.rules.specs.Header.{vendor3GPP, applicationNt, commandFlags, isRequest, isProxiable, isError, lengthOutcome, applicationOutcome, flagsOutcome, headerOutcome}
@@ -17,11 +18,11 @@ use Rattle.rules.specs.Rows.{rowsOf, admitsOthers}
 use Rattle.rules.specs.Walk.{whole, framing, wrongFlags, unsupported, wrongWidth, wrongValue, tooDeep, contents, checked, walkAvp, walkList}
 use Rattle.rules.specs.RowChecks.{admissionFrom, memberOutcome, missingFrom, membersOutcome, membersAt, listOutcome, groupsOutcome, rowsOutcome}
 use Rattle.rules.specs.Times.{moment, isBefore}
-use Rattle.rules.specs.Exchange.{windowIn, eachWindow, exchangeBy}
+use Rattle.rules.specs.Exchange.{resultOutcome, policiesOutcome, policiesAt, answerOutcome, windowIn, eachWindow, exchangeBy}
 use Rattle.rules.specs.Search.{positionsFrom}
-use Rattle.rules.specs.Command.{rulesBy, walkOf, listsOutcome, commandOutcome, commandVerdict}
+use Rattle.rules.specs.Command.{rulesBy, commandRules, walkOf, listsOutcome, commandOutcome, commandVerdict}
 use Rattle.rules.specs.Windows.{AllRight}
-use Rattle.rules.specs.Edges.{header, avp, avpOf3GPP, letter, vendorId, volumeOf, windowOf, policyOf, proxyOf, Case, case, answers, verdicts}
+use Rattle.rules.specs.Edges.{header, avp, avpOf3GPP, letter, vendorId, answerBegins, volumeOf, windowOf, policyOf, proxyOf, Case, case, answers, verdicts}
 
 -- ---- what is claimed
 
@@ -37,6 +38,14 @@ pub record FlagsJudged (c : List ℕ) : Type 0 where
   pub error-answer : isRequest (commandFlags c) ≡ false → isError (commandFlags c) ≡ true → headerOutcome c ≡ Pass
   -- P set without E
   pub proxiable : isProxiable (commandFlags c) ≡ true → isError (commandFlags c) ≡ false → headerOutcome c ≡ Pass
+
+-- what a command is judged by, of each kind
+pub record KindsJudged (c : List ℕ) : Type 0 where
+  pub request : isRequest (commandFlags c) ≡ true → commandRules c ≡ record { rows = Request; exchange = OfRequest }
+  pub answer : isRequest (commandFlags c) ≡ false → isError (commandFlags c) ≡ false
+      → commandRules c ≡ record { rows = Answer; exchange = OfAnswer }
+  pub error-answer : isRequest (commandFlags c) ≡ false → isError (commandFlags c) ≡ true
+      → commandRules c ≡ record { rows = ErrorAnswer; exchange = WindowsAlone }
 
 -- an answer with E whose length, version, application and command code pass
 pub record IsErrorAnswer (c : List ℕ) : Type 0 where
@@ -159,7 +168,49 @@ erred =
     ∷ case (errorAnswer 76 (three ++ avp 284 0x40 20 (avp 280 0x40 9 (letter 0x68)))) 5005 76 0 33
     ∷ []
 
+-- what request [1] leaves as it is
+unfoldable pub unmoved : List Case
+unmoved =
+    -- the application is looked at before the command flags
+    case (header 1 20 0xE0 16777346) 3007 8 0 0
+    ∷ case (header 1 20 0x20 16777346) 3007 8 0 0
+    -- a row is for its vendor: two 268 of 3GPP are others
+    ∷ case (errorAnswer 76 (host ++ realm ++ avpOf3GPP 268 0x80 16 (octets 4 1) ++ avpOf3GPP 268 0x80 16 (octets 4 1))) 5005 76 0 268
+    -- the walk: M, widths and values of the names that have rows, and of 277
+    ∷ case (errorAnswer 68 (avp 263 0 9 (letter 0x73) ++ three)) 3009 20 0 263
+    ∷ case (errorAnswer 56 (avp 264 0 9 (letter 0x68) ++ realm ++ result)) 3009 20 0 264
+    ∷ case (errorAnswer 56 (host ++ avp 296 0 9 (letter 0x72) ++ result)) 3009 32 0 296
+    ∷ case (errorAnswer 56 (host ++ realm ++ avp 268 0 12 (octets 4 3002))) 3009 44 0 268
+    ∷ case (errorAnswer 56 (host ++ realm ++ avp 268 0x40 9 (letter 1))) 5014 44 0 268
+    ∷ case (errorAnswer 68 (three ++ avp 278 0 12 (octets 4 1))) 3009 56 0 278
+    ∷ case (errorAnswer 68 (three ++ avp 278 0x40 9 (letter 1))) 5014 56 0 278
+    ∷ case (errorAnswer 68 (three ++ avp 279 0 9 (letter 1))) 3009 56 0 279
+    ∷ case (errorAnswer 88 (three ++ avp 297 0 32 (vendorId ++ avp 298 0x40 12 (octets 4 1)))) 3009 56 0 297
+    ∷ case (errorAnswer 88 (three ++ avp 284 0 32 (avp 280 0x40 9 (letter 0x68) ++ avp 33 0x40 9 (letter 0x73)))) 3009 56 0 284
+    ∷ case (errorAnswer 68 (three ++ avp 277 0x40 12 (octets 4 0))) 5004 56 0 277
+    -- the rows of groups
+    ∷ case (errorAnswer 64 (three ++ avp 260 0x40 8 [])) 5005 64 0 266
+    ∷ case (errorAnswer 76 (three ++ avp 297 0x40 20 vendorId)) 5005 76 0 298
+    ∷ case (errorAnswer 68 (three ++ avpOf3GPP 628 0x80 12 [])) 5005 68 0 266
+    ∷ case (errorAnswer 68 (three ++ avpOf3GPP 4207 0xC0 12 [])) 5005 68 vendor3GPP 4208
+    ∷ case (errorAnswer 116 (three ++ avpOf3GPP 4204 0xC0 60 (avpOf3GPP 4206 0xC0 16 (octets 4 10)
+    ++ avpOf3GPP 4206 0xC0 16 (octets 4 10) ++ avpOf3GPP 4205 0xC0 16 (octets 4 11)))) 5009 84 vendor3GPP 4206
+    -- answers without E and requests, by their own rows, with T too
+    ∷ case (withFlags 0x40 68 (session ++ three)) 5005 68 0 260
+    ∷ case (withFlags 0x50 68 (session ++ three)) 5005 68 0 260
+    ∷ case (withFlags 0x40 120 (answerBegins ++ experimental)) 0 0 0 0
+    ∷ case (withFlags 0xC0 88 answerBegins) 5005 88 0 283
+    ∷ case (withFlags 0xD0 88 answerBegins) 5005 88 0 283
+    ∷ case (withFlags 0xC0 44 (session ++ session)) 5009 32 0 263
+    ∷ []
+
 -- each has its answer
+computed : (verdicts erred ≡ answers erred) × (verdicts unmoved ≡ answers unmoved)
+unfolding verdicts answers case header avp avpOf3GPP vendorId answerBegins volumeOf windowOf policyOf proxyOf withFlags session host realm result three state message reporter failed experimental twoOfEach others erred unmoved octets numberAt padded lengthOutcome applicationOutcome flagsOutcome headerOutcome avpAt rowsOf admitsOthers dictionary find framing wrongFlags unsupported wrongWidth wrongValue tooDeep contents checked walkAvp walkList admissionFrom memberOutcome missingFrom membersOutcome membersAt groupsOutcome rowsOutcome positionsFrom resultOutcome policiesOutcome policiesAt answerOutcome moment isBefore windowIn eachWindow exchangeBy rulesBy walkOf listsOutcome commandOutcome commandVerdict
+computed = (refl, refl)
+
 pub error-edges : verdicts erred ≡ answers erred
-unfolding verdicts answers case header avp avpOf3GPP vendorId volumeOf windowOf policyOf proxyOf withFlags session host realm result three state message reporter failed experimental twoOfEach others erred octets numberAt padded lengthOutcome applicationOutcome flagsOutcome headerOutcome avpAt rowsOf admitsOthers dictionary find framing wrongFlags unsupported wrongWidth wrongValue tooDeep contents checked walkAvp walkList admissionFrom memberOutcome missingFrom membersOutcome membersAt groupsOutcome rowsOutcome positionsFrom moment isBefore windowIn eachWindow exchangeBy rulesBy walkOf listsOutcome commandOutcome commandVerdict
-error-edges = refl
+error-edges = computed .0
+
+pub unmoved-edges : verdicts unmoved ≡ answers unmoved
+unmoved-edges = computed .1

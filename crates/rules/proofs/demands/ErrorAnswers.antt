@@ -1,14 +1,14 @@
 -- Request [1]: answers with E. Which command flags the header lets through, which exchange rules apply, and which such
 -- answers are accepted. The claims stand in rules/specs/ErrorAnswers.
-use mathlib.Core.Path.{_≡_, sym, ap, _∙_}
-use mathlib.Core.Bool.{not, and-false}
+use mathlib.Core.Path.{_≡_, refl, sym, ap, _∙_}
+use mathlib.Core.Bool.{false, not, and-false}
 use mathlib.Core.Logic.{_↔_}
 use mathlib.Core.List.{List}
 use Prim.Native.Nat.{ℕ}
 use lib.ListN.{length}
 use Rattle.rules.specs.declared.Avp.{Avp}
 use Rattle.rules.specs.declared.Outcome.the-variants.{Pass}
-use Rattle.rules.specs.Verdict.{verdict, orElse}
+use Rattle.rules.specs.Verdict.{readerNumbers, writerOnlyNumbers, isAmong, verdict, orElse}
 use Rattle.rules.specs.Header.{vendor3GPP, commandFlags, isRequest, isProxiable, lengthOutcome, applicationOutcome, flagsOutcome, headerOutcome}
 use Rattle.rules.specs.Avp.{placeOf}
 use Rattle.rules.specs.Walk.{whole}
@@ -19,7 +19,7 @@ use Rattle.rules.specs.Command.{ofErrorAnswer, rulesBy, commandRules, wa
 use Rattle.rules.specs.Demands.{AcceptedCommand}
 use Rattle.rules.specs.Order.{ownRows, groupRows, exchange, windows}
 use Rattle.rules.specs.Windows.{RightBefore, WrongWindow}
-use Rattle.rules.specs.ErrorAnswers.{FlagsJudged, IsErrorAnswer, MeetsGeneralForm}
+use Rattle.rules.specs.ErrorAnswers.{FlagsJudged, KindsJudged, IsErrorAnswer, MeetsGeneralForm}
 use Rattle.rules.proofs.Outcomes.{both-pass}
 use Rattle.rules.proofs.Commands.{passed-command}
 use Rattle.rules.proofs.demands.Demands.{demand-2-accepted}
@@ -48,18 +48,37 @@ request-1-flags c long known =
       proxiable = λ set none. by ∙ rw (none, set, and-false r);
     }
 
+-- ---- what a command is judged by
+
+-- 02 [1]: "Judge an answer with E by the general form": that answer alone. A request and an answer without E are judged
+-- by 01's rows and exchange rules, whatever P and T.
+-- Carried by the definition of rulesBy alone.
+-- Ruled out: a reader that judges an answer without E by the general form; one that takes T for E.
+pub request-1-kinds : (c : List ℕ) → KindsJudged c
+unfolding rulesBy
+request-1-kinds c =
+    record {
+      request = λ r. rw r;
+      answer = λ a none. rw (a, none);
+      error-answer = λ a error. rw (a, error);
+    }
+
+-- 02 [1]: "7005 is no longer given": it is no number of the reader's table, nor of the writer's own.
+-- Carried by the table; demand-1-reader-number and demand-1-writer-number say that no other number is given.
+-- Ruled out: a reader that still answers an error answer with 7005; a writer that does.
+pub request-1-number : (isAmong readerNumbers 7005 ≡ false) × (isAmong writerOnlyNumbers 7005 ≡ false)
+unfolding readerNumbers writerOnlyNumbers
+request-1-number = (refl, refl)
+
 module _ (c : List ℕ) (is : IsErrorAnswer c) where
   header-passes : headerOutcome c ≡ Pass
   header-passes = request-1-flags c (is .long) (is .known) .error-answer (is .not-request) (is .with-error)
 
-  -- ---- what it is judged by
-
   rules : commandRules c ≡ ofErrorAnswer
-  unfolding rulesBy
-  rules = rw (is .not-request, is .with-error)
+  rules = request-1-kinds c .error-answer (is .not-request) (is .with-error)
 
   -- 02 [1]: "Of the exchange rules only the window rule applies": the others pass, whatever its AVPs are.
-  -- Carried by the definitions of rulesBy and byCommand alone.
+  -- Carried by request-1-kinds and the definition of byCommand.
   -- Ruled out: a reader that asks for 4202 beside a 4207; one that refuses 297 beside 268.
   pub request-1-rules : (xs : List Avp) → exchange c xs ≡ Pass
   request-1-rules xs = rw rules
@@ -95,7 +114,8 @@ module _ (c : List ℕ) (is : IsErrorAnswer c) where
   -- by the window rule: such an answer is accepted exactly if it meets them, whatever P and T.
   -- Carried by request-1-flags, request-1-rules, demand-2-accepted, passed-command (rules/proofs/Commands),
   -- request-5-accepted and pass-all-right (Windows).
-  -- Ruled out: a reader that asks such an answer for 260 or 277; one that lets its windows pass.
+  -- Which rows the general form has, the computed answers say (rules/specs/ErrorAnswers).
+  -- Ruled out: a reader that judges such an answer by the rows of an answer without E; one that lets its windows pass.
   pub request-1-accepted : AcceptedCommand c ↔ ((xs : List Avp) × MeetsGeneralForm c xs)
   request-1-accepted = (meets-form, λ m. accepts (m .0) (m .1))
 
