@@ -2,6 +2,7 @@
 //! papers', by hand.
 
 use second_reader::{listing, read, verdict, Record, Verdict};
+use std::collections::BTreeSet;
 use std::slice::from_ref;
 
 const TGPP: u32 = 10_415;
@@ -176,15 +177,25 @@ fn session_id() {
     assert_eq!(of(&[&other, &one, &base]), (5008, 36, 0, 263));
 }
 
+/// Each of the 38 names without a row once: groups with right members, right windows, 277 of 1.
+fn without_row() -> Vec<Vec<u8>> {
+    let features = tgpp(628, &[plain(266, &four(1)), tgpp(629, &four(1)), tgpp(630, &four(1))].concat());
+    let mut names = vec![plain(260, &plain(266, &four(1))), features, window(1, 2), policy(&[])];
+    names.extend([plain(277, &four(1)), tgpp(4203, &four(0))]);
+    names.extend([258, 259, 261, 262, 266, 298, 301, 432].map(|code| plain(code, &four(7))));
+    names.extend([412, 414, 421].map(|code| plain(code, &[7; 8])));
+    names.extend([33, 280, 282, 283, 292, 293, 621, 623, 650].map(|code| plain(code, b"x")));
+    names.extend([515, 516, 629, 630, 4205, 4206, 4208, 4209].map(|code| tgpp(code, &four(7))));
+    names.extend([532, 2207, 4201, 4202].map(|code| tgpp(code, b"x")));
+    names
+}
+
 #[test]
 fn any_others() {
-    let group = plain(260, &plain(266, &four(1)));
-    let features = tgpp(628, &[plain(266, &four(1)), tgpp(629, &four(1)), tgpp(630, &four(1))].concat());
-    let mut others = vec![group, plain(277, &four(1)), proxy(&[]), features, window(1, 2), policy(&[])];
-    others.extend([301, 261, 262].map(|code| plain(code, &four(7))));
-    others.extend([292, 282, 621, 623, 650, 283, 293].map(|code| plain(code, b"x")));
-    others.extend([4202, 2207, 4201, 532].map(|code| tgpp(code, b"x")));
-    others.extend([0, 1].map(|value| tgpp(4203, &four(value))));
+    let mut others = without_row();
+    let distinct: BTreeSet<&[u8]> = others.iter().map(|one| &one[..4]).collect();
+    assert_eq!((others.len(), distinct.len()), (38, 38));
+    others.extend([proxy(&[]), tgpp(4203, &four(1))]);
     others.extend([avp(0, 9999, 0, b"?"), avp(TGPP, 263, 0, b"?"), avp(0, 4207, 0, b"?")]);
     for one in &others {
         for number in 0..4 {
