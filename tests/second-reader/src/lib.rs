@@ -12,6 +12,7 @@ mod command_line;
 pub mod coverage;
 pub mod dictionary;
 pub mod draft;
+mod error_cells;
 pub mod error_coverage;
 mod exchange;
 mod gaps;
