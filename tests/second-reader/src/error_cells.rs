@@ -3,7 +3,7 @@
 //! checks. The rows are named here once more, not taken from the table that judges by them: a row too many or too few
 //! there leaves a cell empty.
 
-use crate::dictionary::Kind;
+use crate::dictionary::{Kind, VENDOR_3GPP};
 use crate::rows;
 use crate::verdict::number;
 use Kind::*;
@@ -32,6 +32,8 @@ pub enum Cell {
     ClearP { r: bool },
     /// 5008 at an own 263 that is not first, and whether another one follows.
     SessionLate { again: bool },
+    /// The same behind 263s of vendors alone, the first of them of this vendor.
+    SessionBehind(u32),
     /// Acceptance with a 263 in a group alone.
     SessionInGroup,
     /// 5005 for an own row.
@@ -112,8 +114,8 @@ const WALK: [u32; 6] = [
     number::GROUP_TOO_DEEP,
 ];
 
-/// The numbers of 268 that are looked for: of a success, of a protocol error, of failures.
-pub(crate) const RESULTS: [u32; 4] = [2001, 3008, 4002, 5005];
+/// The numbers of 268 that are looked for: none that is assigned, of a success, of a protocol error, of failures.
+pub(crate) const RESULTS: [u32; 5] = [0, 2001, 3008, 4002, 5005];
 
 /// What BTA's exchange rules ask for beside a 4207, and in it.
 pub(crate) const POLICY_LACKS: [Kind; 4] = [ReferenceId, PcrfAddress, TimeWindow, RatingGroup];
@@ -136,6 +138,7 @@ impl Cell {
         }
         cells.extend([true, false].map(|r| ClearP { r }));
         cells.extend([true, false].map(|again| SessionLate { again }));
+        cells.extend([VENDOR_3GPP, VENDOR_3GPP + 1].map(SessionBehind));
         for (at, &kind) in REQUIRED.iter().enumerate() {
             cells.push(Missing(kind));
             cells.extend(REQUIRED[at + 1..].iter().map(|&other| MissingBefore(kind, other)));

@@ -83,6 +83,9 @@ fn rows(walked: &Walked, found: &Found, verdict: &Verdict) -> Vec<Cell> {
         _ => {
             let again = own(walked).filter(|avp| names(avp, SessionId)).count() > 1;
             cells.push(Cell::SessionLate { again });
+            let before: Vec<&Avp> = own(walked).take_while(|avp| place(avp) < verdict.place).collect();
+            let alone = before.iter().all(|avp| is_session_of_vendor(avp));
+            cells.extend(before.first().filter(|_| alone).map(|first| Cell::SessionBehind(first.vendor)));
             Fault::Session
         }
     };
@@ -135,6 +138,11 @@ fn accepted(walked: &Walked) -> Vec<Cell> {
 /// The AVPs of the command's own list.
 fn own<'a>(walked: &'a Walked) -> impl Iterator<Item = &'a Avp> {
     walked.avps.iter().filter(|avp| avp.depth == 1)
+}
+
+/// A 263 that the dictionary lacks.
+fn is_session_of_vendor(avp: &Avp) -> bool {
+    avp.vendor != 0 && avp.code == SessionId.code()
 }
 
 fn is_own_policy(avp: &Avp) -> bool {

@@ -14,8 +14,8 @@ use Kind::*;
 pub const GROUPS: [Kind; 6] =
     [VendorSpecificApplicationId, ExperimentalResult, ProxyInfo, SupportedFeatures, TimeWindow, TransferPolicy];
 
-/// Values of 268, which is not judged: of a success, a protocol error, failures.
-const RESULTS: [u32; 5] = [2001, 3007, 3008, 4002, 5005];
+/// Values of 268, which is not judged: none that is assigned, of a success, of protocol errors, of failures.
+const RESULTS: [u32; 6] = [0, 2001, 3007, 3008, 4002, 5005];
 
 /// A sound command, rarely one that a limit refuses.
 pub fn command(prng: &mut Prng) -> Tree {

@@ -3,7 +3,7 @@
 
 use super::pick::{one, some_list};
 use super::{fields, members, windows};
-use crate::dictionary::Kind;
+use crate::dictionary::{Kind, VENDOR_3GPP};
 use crate::generate::prng::Prng;
 use crate::generate::sound;
 use crate::generate::tree::{Body, Node, Tree};
@@ -62,9 +62,20 @@ fn exceed(tree: &mut Tree, prng: &mut Prng) {
     tree.list.insert(behind_first(tree, prng), node);
 }
 
-/// A 263 that is not first; at times another one behind it.
+/// A 263 that is not first; at times another one behind it, or 263s of vendors alone before it.
 fn late_session(tree: &mut Tree, prng: &mut Prng) {
     tree.list.retain(|node| !node.is(SessionId));
+    if prng.one_in(4) {
+        tree.list.insert(0, sound::known(SessionId, 1, prng));
+        for _ in 0..prng.pick(&[1, 1, 2]) {
+            // Of a vendor the dictionary lacks it: without M it is admitted.
+            let mut node = sound::known(SessionId, 1, prng);
+            node.vendor = Some(prng.pick(&[VENDOR_3GPP, VENDOR_3GPP + 1]));
+            node.flags &= !0x40;
+            tree.list.insert(0, node);
+        }
+        return;
+    }
     for _ in 0..prng.pick(&[1, 1, 2]) {
         let node = sound::known(SessionId, 1, prng);
         tree.list.insert(behind_first(tree, prng), node);
