@@ -1,5 +1,5 @@
-//! Request 1 of 02 through the safe functions: error answers read and written with all command flags, the sample book
-//! of them, and the record of the one with every row.
+//! Request 1 of 02 through the safe functions: an error answer read and written with all 16 combinations of R, P, E and
+//! T, the sample book of error answers, and the record of the one with every row.
 
 use commands::S;
 use talazumir::{read, write, Reader, Record, Verdict, RECORD_NUMBERS};
@@ -11,6 +11,8 @@ const LISTING: &str = include_str!("../../../books/error-answers.listing");
 const OF_ERROR_ANSWERS: [u8; 4] = [0x20, 0x30, 0x60, 0x70];
 /// Those with R and E, and those with neither P nor E.
 const REFUSED: [u8; 8] = [0xA0, 0xB0, 0xE0, 0xF0, 0x00, 0x10, 0x80, 0x90];
+/// Those of an answer and of a request, which both want a Session-Id (263) first.
+const OF_OTHERS: [u8; 4] = [0x40, 0x50, 0xC0, 0xD0];
 
 fn refusal(number: u32, place: u32, vendor: u32, code: u32) -> Verdict {
     Verdict { number, place, vendor, code }
@@ -55,8 +57,7 @@ fn other_flags_make_no_error_answer() {
     for flags in REFUSED {
         assert_eq!(read(&shortest(flags)).unwrap_err(), refusal(3008, 4, 0, 0), "{flags:02X}");
     }
-    // An answer and a request, which both want a Session-Id (263) first.
-    for flags in [0x40, 0x50, 0xC0, 0xD0] {
+    for flags in OF_OTHERS {
         assert_eq!(read(&shortest(flags)).unwrap_err(), refusal(5005, 56, 0, 263), "{flags:02X}");
     }
     // S, a request, as an error answer lacks a Result-Code (268).
@@ -115,6 +116,9 @@ fn refused_drafts_leave_the_output() {
     };
     for flags in REFUSED {
         assert_eq!(refused(&draft(flags)), refusal(3008, 4, 0, 0), "{flags:02X}");
+    }
+    for flags in OF_OTHERS {
+        assert_eq!(refused(&draft(flags)), refusal(5005, 56, 0, 263), "{flags:02X}");
     }
     // Without its last AVP, the Result-Code (268); without any.
     let mut record = draft(0x20);
