@@ -32,7 +32,7 @@ by-flags : (c : List ℕ) → lengthOutcome c ≡ Pass → applicationOutcome c 
 unfolding headerOutcome
 by-flags c long known = rw (long, known)
 
--- 02 [1]: "P may be clear here [...] 3008 for a clear P only without E or with R", and R with E is 3008 as before.
+-- 02 [1]: "P may be clear here [...] 3008 for a clear P only without E or with R", and R with E is 3008, as in 01.
 -- Carried by the definitions of headerOutcome and flagsOutcome alone; the four cases are all that there are.
 -- Ruled out: a reader that refuses a clear P with E; one that reads a request with E as an error answer.
 pub request-1-flags : (c : List ℕ) → lengthOutcome c ≡ Pass → applicationOutcome c ≡ Pass → FlagsJudged c
@@ -65,7 +65,7 @@ request-1-kinds c =
 
 -- 02 [1]: "7005 is no longer given": it is no number of the reader's table, nor of the writer's own.
 -- Carried by the table; demand-1-reader-number and demand-1-writer-number say that no other number is given.
--- Ruled out: a reader that still answers an error answer with 7005; a writer that does.
+-- Ruled out: a reader that answers an error answer with 7005; a writer that does.
 pub request-1-number : (isAmong readerNumbers 7005 ≡ false) × (isAmong writerOnlyNumbers 7005 ≡ false)
 unfolding readerNumbers writerOnlyNumbers
 request-1-number = (refl, refl)
