@@ -1,28 +1,30 @@
 -- What request [1] claims of answers with E (proofs/demands/ErrorAnswers), and such answers, with commands of the flags
 -- beside theirs, and their verdicts, computed. xs are the AVPs of the command's walk.
 use mathlib.Core.Path.{_≡_, refl}
-use mathlib.Core.Bool.{true, false}
+use mathlib.Core.Bool.{Bool, true, false, cond}
 use mathlib.Core.List.{List, [], _∷_, _++_}
 use Prim.Native.Nat.{ℕ}
 use lib.ListN.{length}
 use Rattle.rules.specs.declared.Avp.{Avp}
 use Rattle.rules.specs.declared.Outcome.the-variants.{Pass}
+use Rattle.rules.specs.declared.Admission.{Admission}
+use Rattle.rules.specs.declared.Admission.the-variants.{ByRow, NoRow}
 use Rattle.rules.specs.declared.Grammar.the-variants.{Request, Answer, ErrorAnswer}
 use Rattle.rules.specs.declared.ExchangeRules.the-variants.{OfRequest, OfAnswer, WindowsAlone}
 use Rattle.rules.specs.Octets.{octets, numberAt, padded}
 use Rattle.rules.specs.Verdict.{refused}
 use Rattle.rules.specs.Header.{vendor3GPP, applicationNt, commandFlags, isRequest, isProxiable, isError, lengthOutcome, applicationOutcome, flagsOutcome, headerOutcome}
 use Rattle.rules.specs.Avp.{avpAt}
-use Rattle.rules.specs.Dictionary.{dictionary, find}
+use Rattle.rules.specs.Dictionary.{Entry, dictionary, find}
 use Rattle.rules.specs.Rows.{rowsOf, admitsOthers}
 use Rattle.rules.specs.Walk.{whole, framing, wrongFlags, unsupported, wrongWidth, wrongValue, tooDeep, contents, checked, walkAvp, walkList}
-use Rattle.rules.specs.RowChecks.{admissionFrom, memberOutcome, missingFrom, membersOutcome, membersAt, listOutcome, groupsOutcome, rowsOutcome}
+use Rattle.rules.specs.RowChecks.{admissionFrom, admission, memberOutcome, missingFrom, membersOutcome, membersAt, listOutcome, groupsOutcome, rowsOutcome}
 use Rattle.rules.specs.Times.{moment, isBefore}
 use Rattle.rules.specs.Exchange.{resultOutcome, policiesOutcome, policiesAt, answerOutcome, windowIn, eachWindow, exchangeBy}
 use Rattle.rules.specs.Search.{positionsFrom}
 use Rattle.rules.specs.Command.{rulesBy, commandRules, walkOf, listsOutcome, commandOutcome, commandVerdict}
 use Rattle.rules.specs.Windows.{AllRight}
-use Rattle.rules.specs.Edges.{header, avp, avpOf3GPP, letter, vendorId, answerBegins, volumeOf, windowOf, policyOf, proxyOf, Case, case, answers, verdicts}
+use Rattle.rules.specs.Edges.{header, avp, avpOf3GPP, letter, vendorId, answerBegins, windowOf, policyOf, proxyOf, Case, case, answers, verdicts}
 
 -- ---- what is claimed
 
@@ -103,24 +105,6 @@ failed = avp 279 0x40 9 (letter 0x66)
 unfoldable pub experimental : List ℕ
 experimental = avp 297 0x40 32 (vendorId ++ avp 298 0x40 12 (octets 4 1))
 
--- two of each AVP of a list of codes
-unfoldable pub twoOfEach : (ℕ → List ℕ) → List ℕ → List ℕ
-twoOfEach avpOf [] = []
-twoOfEach avpOf (code ∷ codes) = avpOf code ++ avpOf code ++ twoOfEach avpOf codes
-
--- two of each name of the dictionary that has no row in the general form: 1,240 octets
-unfoldable pub others : List ℕ
-others =
-    twoOfEach (λ code. avp code 0x40 12 (octets 4 1)) (258 ∷ 259 ∷ 261 ∷ 262 ∷ 266 ∷ 277 ∷ 298 ∷ 301 ∷ 432 ∷ [])
-    ++ twoOfEach (λ code. avp code 0x40 9 (letter 0x61)) (33 ∷ 280 ∷ 282 ∷ 283 ∷ 292 ∷ 293 ∷ 621 ∷ 623 ∷ 650 ∷ [])
-    ++ twoOfEach volumeOf (412 ∷ 414 ∷ 421 ∷ [])
-    ++ twoOfEach (λ code. avpOf3GPP code 0xC0 16 (octets 4 1)) (515 ∷ 516 ∷ 629 ∷ 630 ∷ 4203 ∷ 4205 ∷ 4206 ∷ 4208 ∷ 4209 ∷ [])
-    ++ twoOfEach (λ code. avpOf3GPP code 0xC0 13 (letter 0x61)) (532 ∷ 2207 ∷ 4201 ∷ 4202 ∷ [])
-    ++ twoOfEach (λ code. avp code 0x40 20 vendorId) (260 ∷ [])
-    ++ twoOfEach (λ code. avpOf3GPP code 0xC0 56 (vendorId ++ avpOf3GPP 629 0xC0 16 (octets 4 1) ++ avpOf3GPP 630 0xC0 16 (octets 4 1)))
-    (628 ∷ [])
-    ++ windowOf 10 11 ++ windowOf 10 11 ++ policyOf 28 [] ++ policyOf 28 []
-
 unfoldable pub erred : List Case
 erred =
     -- P set, P clear, T set
@@ -156,7 +140,8 @@ erred =
     ∷ case (errorAnswer 80 (three ++ failed ++ failed)) 5009 68 0 279
     ∷ case (errorAnswer 120 (three ++ experimental ++ experimental)) 5009 88 0 297
     -- any others in any number, of the dictionary and not; with M a name that it lacks is 5001
-    ∷ case (errorAnswer 1296 (three ++ others)) 0 0 0 0
+    ∷ case (errorAnswer 104 (three ++ avp 277 0x40 12 (octets 4 1) ++ avp 277 0x40 12 (octets 4 1) ++ avp 301 0 12 (octets 4 0)
+    ++ avp 301 0 12 (octets 4 0))) 0 0 0 0
     ∷ case (errorAnswer 72 (three ++ avp 9999 0 8 [] ++ avp 9999 0 8 [])) 0 0 0 0
     ∷ case (errorAnswer 64 (three ++ avp 9999 0x40 8 [])) 5001 56 0 9999
     -- two 4207 ask for nothing; their windows are judged, and so is one at depth 1, once the rows are met
@@ -167,6 +152,25 @@ erred =
     -- a group's rows: a 284 without 33
     ∷ case (errorAnswer 76 (three ++ avp 284 0x40 20 (avp 280 0x40 9 (letter 0x68)))) 5005 76 0 33
     ∷ []
+
+-- whether a name has a row in the general form
+abbrev pub isNamed : Admission → Bool
+isNamed (ByRow row mark) = true
+isNamed NoRow = false
+
+abbrev pub hasRow : Entry → Bool
+hasRow e = isNamed (admission ErrorAnswer (e .vendor) (e .code))
+
+-- the codes of the dictionary's entries that have one, in its order
+unfoldable pub codesWithRow : List Entry → List ℕ
+codesWithRow [] = []
+codesWithRow (e ∷ es) = cond (hasRow e) (e .code ∷ codesWithRow es) (codesWithRow es)
+
+-- these ten; every other name is one of the others, in any number
+pub rows-of-general-form : codesWithRow dictionary
+    ≡ (268 ∷ 278 ∷ 263 ∷ 264 ∷ 296 ∷ 279 ∷ 281 ∷ 294 ∷ 297 ∷ 284 ∷ [])
+unfolding codesWithRow dictionary rowsOf admissionFrom
+rows-of-general-form = refl
 
 -- what request [1] leaves as it is
 unfoldable pub unmoved : List Case
@@ -206,7 +210,7 @@ unmoved =
 
 -- each has its answer
 computed : (verdicts erred ≡ answers erred) × (verdicts unmoved ≡ answers unmoved)
-unfolding verdicts answers case header avp avpOf3GPP vendorId answerBegins volumeOf windowOf policyOf proxyOf withFlags session host realm result three state message reporter failed experimental twoOfEach others erred unmoved octets numberAt padded lengthOutcome applicationOutcome flagsOutcome headerOutcome avpAt rowsOf admitsOthers dictionary find framing wrongFlags unsupported wrongWidth wrongValue tooDeep contents checked walkAvp walkList admissionFrom memberOutcome missingFrom membersOutcome membersAt groupsOutcome rowsOutcome positionsFrom resultOutcome policiesOutcome policiesAt answerOutcome moment isBefore windowIn eachWindow exchangeBy rulesBy walkOf listsOutcome commandOutcome commandVerdict
+unfolding verdicts answers case header avp avpOf3GPP vendorId answerBegins windowOf policyOf proxyOf withFlags session host realm result three state message reporter failed experimental erred unmoved octets numberAt padded lengthOutcome applicationOutcome flagsOutcome headerOutcome avpAt rowsOf admitsOthers dictionary find framing wrongFlags unsupported wrongWidth wrongValue tooDeep contents checked walkAvp walkList admissionFrom memberOutcome missingFrom membersOutcome membersAt groupsOutcome rowsOutcome positionsFrom resultOutcome policiesOutcome policiesAt answerOutcome moment isBefore windowIn eachWindow exchangeBy rulesBy walkOf listsOutcome commandOutcome commandVerdict
 computed = (refl, refl)
 
 pub error-edges : verdicts erred ≡ answers erred
