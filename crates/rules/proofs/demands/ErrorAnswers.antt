@@ -1,7 +1,7 @@
 -- Request [1]: answers with E. Which command flags the header lets through, which exchange rules apply, and which such
 -- answers are accepted. The claims stand in rules/specs/ErrorAnswers.
 use mathlib.Core.Path.{_≡_, refl, sym, ap, _∙_}
-use mathlib.Core.Bool.{false, not, and-false}
+use mathlib.Core.Bool.{false, and-false}
 use mathlib.Core.Logic.{_↔_}
 use mathlib.Core.List.{List}
 use Prim.Native.Nat.{ℕ}
@@ -20,7 +20,9 @@ use Rattle.rules.specs.Demands.{AcceptedCommand}
 use Rattle.rules.specs.Order.{ownRows, groupRows, exchange, windows}
 use Rattle.rules.specs.Windows.{RightBefore, WrongWindow}
 use Rattle.rules.specs.ErrorAnswers.{FlagsJudged, KindsJudged, IsErrorAnswer, MeetsGeneralForm}
+use Rattle.rules.proofs.Header.{flags-error-request, flags-proxiable, flags-error-answer, flags-not-proxiable}
 use Rattle.rules.proofs.Outcomes.{both-pass}
+use Rattle.rules.proofs.Walk.{by-cases}
 use Rattle.rules.proofs.Commands.{passed-command}
 use Rattle.rules.proofs.demands.Demands.{demand-2-accepted}
 use Rattle.rules.proofs.demands.Windows.{pass-all-right, request-5-refused, request-5-accepted}
@@ -33,19 +35,20 @@ unfolding headerOutcome
 by-flags c long known = rw (long, known)
 
 -- 02 [1]: "P may be clear here [...] 3008 for a clear P only without E or with R", and R with E is 3008, as in 01.
--- Carried by the definitions of headerOutcome and flagsOutcome alone; the four cases are all that there are.
+-- Carried by the laws of the command flags (rules/proofs/Header); the four cases are all that there are.
 -- Ruled out: a reader that refuses a clear P with E; one that reads a request with E as an error answer.
 pub request-1-flags : (c : List ℕ) → lengthOutcome c ≡ Pass → applicationOutcome c ≡ Pass → FlagsJudged c
-unfolding flagsOutcome
 request-1-flags c long known =
+    let f = commandFlags c in
     let by = by-flags c long known in
-    let r = isRequest (commandFlags c) in
-    let p = isProxiable (commandFlags c) in
     record {
-      both = λ request error. by ∙ rw (request, error);
-      clear = λ clear none. by ∙ rw (none, clear, and-false r);
-      error-answer = λ answer error. by ∙ rw (answer, error, and-false (not p));
-      proxiable = λ set none. by ∙ rw (none, set, and-false r);
+      both = λ request error. by ∙ flags-error-request f (rw (request, error));
+      clear = λ clear none. by ∙ flags-not-proxiable f (rw none (and-false (isRequest f))) clear none;
+      error-answer = λ answer error.
+          by
+          ∙ by-cases (isProxiable f) (λ set. flags-proxiable f (rw answer) set)
+          (λ clear. flags-error-answer f (rw answer) clear error);
+      proxiable = λ set none. by ∙ flags-proxiable f (rw none (and-false (isRequest f))) set;
     }
 
 -- ---- what a command is judged by
