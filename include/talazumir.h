@@ -1,5 +1,5 @@
-/* Talazumir: the proved reader and writer of Nt and Nta commands, for C callers. Link with
- * target/staticlib/libboundary.a, which `rt staticlib boundary` proves and builds (x86-64 Linux).
+/* Talazumir: the proved reader and writer of Nt commands, for C callers. Link with target/staticlib/libboundary.a,
+ * which `rt staticlib boundary` proves and builds (x86-64 Linux).
  *
  * Each function has one answer for every content of what it is handed; there is no error besides the answers below.
  * What the caller sees to: pointers are not NULL, also where a length is 0; a slice has the octets that its length
@@ -14,13 +14,6 @@
 #ifdef __cplusplus
 extern "C" {
 #endif
-
-/* The two applications, and the command codes that each has. */
-#define TALAZUMIR_APPLICATION_NT 16777348u
-#define TALAZUMIR_CODE_BACKGROUND_DATA_TRANSFER 8388723u
-#define TALAZUMIR_APPLICATION_NTA 4294967294u
-#define TALAZUMIR_CODE_EVENT_CONFIGURATION 16777214u
-#define TALAZUMIR_CODE_EVENT_REPORTING 16777215u
 
 /* Room for AVPs; a count above it is read as it. */
 #define TALAZUMIR_MOST_AVPS 256
@@ -43,22 +36,22 @@ extern "C" {
 /* The number of the verdict while a command is unfinished, so that none takes it for an acceptance. */
 #define TALAZUMIR_NO_VERDICT 4294967295u
 
-/* The layout of a record: first the command's numbers, by index, those of the header in its order. R, P, E and T are 0
- * or 1; the command code is at most 16,777,215; `COUNT` says how many positions are used. */
+/* The numbers of a record: seven for the command, then seven for each of 256 positions. */
+#define TALAZUMIR_RECORD_NUMBERS 1799
+
+/* The command's numbers in a record, by index. R, P, E and T are 0 or 1; `COUNT` says how many positions are used. */
 #define TALAZUMIR_R 0
 #define TALAZUMIR_P 1
 #define TALAZUMIR_E 2
 #define TALAZUMIR_T 3
-#define TALAZUMIR_COMMAND_CODE 4
-#define TALAZUMIR_APPLICATION 5
-#define TALAZUMIR_HOP_BY_HOP 6
-#define TALAZUMIR_END_TO_END 7
-#define TALAZUMIR_COUNT 8
-#define TALAZUMIR_HEAD_NUMBERS 9
+#define TALAZUMIR_HOP_BY_HOP 4
+#define TALAZUMIR_END_TO_END 5
+#define TALAZUMIR_COUNT 6
 
-/* Then the numbers of each position, by index from the first of them on. Depth is 1 in the command's own list; vendor
- * is 0 where V is clear; M and P are 0 or 1; start and length are those of the data, counted from the command's start.
- * AVPs stand in walk order: a group, then its members. The numbers of unused positions are 0. */
+/* The index of the first number of a position, and what stands from there on. Depth is 1 in the command's own list;
+ * vendor is 0 where V is clear; M and P are 0 or 1; start and length are those of the data, counted from the command's
+ * start. AVPs stand in walk order: a group, then its members. The numbers of unused positions are 0. */
+#define TALAZUMIR_POSITION(position) (7 + 7 * (size_t)(position))
 #define TALAZUMIR_AVP_DEPTH 0
 #define TALAZUMIR_AVP_VENDOR 1
 #define TALAZUMIR_AVP_CODE 2
@@ -66,11 +59,6 @@ extern "C" {
 #define TALAZUMIR_AVP_P 4
 #define TALAZUMIR_AVP_START 5
 #define TALAZUMIR_AVP_LENGTH 6
-#define TALAZUMIR_AVP_NUMBERS 7
-
-/* The index of the first number of a position, and the numbers of a whole record: 1,801. */
-#define TALAZUMIR_POSITION(position) (TALAZUMIR_HEAD_NUMBERS + TALAZUMIR_AVP_NUMBERS * (size_t)(position))
-#define TALAZUMIR_RECORD_NUMBERS (TALAZUMIR_HEAD_NUMBERS + TALAZUMIR_AVP_NUMBERS * TALAZUMIR_MOST_AVPS)
 
 /* The stack that a call takes at most, in octets, its return address among them: the frames along the deepest chain of
  * calls, rounded up. memcpy and memset of the C library, where the archive's code calls them, count 4,096, since the
@@ -107,27 +95,11 @@ extern "C" {
  * not above 0, 5004 names its Transfer-End-Time (4205). Header refusals and 7002 have vendor and code 0; 7004, 7006,
  * 7009 and the writer's 7001 have place 0 too.
  *
- * An error answer, which has E set and R clear, is judged by the general form of RFC 6733, clause 7.2: Session-Id
- * (263) at most once, and first if present; Origin-Host (264), Origin-Realm (296) and Result-Code (268), of any value,
- * once; Origin-State-Id (278), Error-Message (281), Error-Reporting-Host (294), Failed-AVP (279) and
- * Experimental-Result (297) at most once; Proxy-Info (284) and any others in any number. Of the rules on 5008 and 5004
- * just named only that of the Time-Window applies to it. P may be clear in it: 3008 is for E with R, and for a clear P
- * without E.
- *
- * The application in a command's header chooses the profile by which it is judged. 3007 is for an application that is
- * neither Nt nor Nta, 3001 for a command code that the application does not have. All of the above is of Nt; the
- * profile of Nta differs from it in this:
- *
- *   AVPs      4210 to 4216 of vendor 10415 are known too, each with M: Access-Network-Reports (4210),
- *             Event-Configuration (4211) and Event-Configuration-Status (4213) of any length, their content not read;
- *             Event-Configuration-State (4212), Event-Reporting-Results (4214) and Extended-SCEF-Reference-ID (4216) of
- *             four octets; and the group Event-Reports (4215), in which 4211 stands once, 4214 at most once, any others
- *             in any number. In Nt these seven are unknown: 5001 with M, else of any length and content.
- *   requests  263 first; 260, 277, 264, 296, 283 and 4210 once; 301 and 293 at most once; for configuration 4212 and
- *             4216, for reporting 4213 at most once; any others in any number.
- *   answers   263 first; 260, 277, 264 and 296 once; 301, 268, 297, 281, 294, 279, 261 and 262 at most once; any others
- *             in any number. For both command codes.
- *   no rules  on AVPs that ask for each other or exclude each other, and on Time-Windows, in error answers neither. */
+ * An error answer, which has E set and R clear, is judged by the general form of RFC 6733, clause 7.2: Session-Id (263)
+ * at most once, and first if present; Origin-Host (264), Origin-Realm (296) and Result-Code (268), of any value, once;
+ * Origin-State-Id (278), Error-Message (281), Error-Reporting-Host (294), Failed-AVP (279) and Experimental-Result (297)
+ * at most once; Proxy-Info (284) and any others in any number. Of the rules on 5008 and 5004 just named only that of the
+ * Time-Window applies to it. P may be clear in it: 3008 is for E with R, and for a clear P without E. */
 struct TalazumirVerdict {
     uint32_t number;
     uint32_t place;
@@ -176,8 +148,8 @@ struct TalazumirLinkStep {
  * written from its first number on, and its numbers behind what is written stay as they were. */
 struct TalazumirVerdict talazumir_verdict(const uint8_t *octets, size_t length, uint32_t log[TALAZUMIR_LOG_NUMBERS]);
 
-/* The verdict of the command that is the whole slice, and its record. All numbers of the record are written; with a
- * refusal all are 0. */
+/* The verdict of the command that is the whole slice, and its record. All 1,799 numbers are written; with a refusal all
+ * are 0. */
 struct TalazumirVerdict talazumir_read(const uint8_t *octets, size_t length, uint32_t record[TALAZUMIR_RECORD_NUMBERS]);
 
 /* The part of the slice that is the data of the AVP at a position, for whatever numbers the record holds and whatever
@@ -199,18 +171,15 @@ struct TalazumirSought talazumir_search(const uint32_t record[TALAZUMIR_RECORD_N
  *   7006  the count exceeds 256; a number of an unused position is not 0; the data of an AVP that is no group leave the
  *         octets; the first depth is not 1, a depth is 0 or above 4, or one grows by more than 1 or not right after a
  *         group; a group's length is not that of its members with padding; R, P, E, T, M or P of a position is neither
- *         0 nor 1; the command code exceeds 16,777,215
+ *         0 nor 1
  *   7001  the command would be longer than 16,384 octets
  *   7004  it would be longer than the room
  *         the refusal that talazumir_read gives to the command's octets
  *      0  the command stands in the output, as many octets as the length says
  *
- * Command code and application are written as the record has them. Which AVPs are groups goes by the application: in
- * Nt 260, 284 and 297 without vendor, and 628, 4204 and 4207 of vendor 10415; in Nta also 4215 of vendor 10415; in any
- * other none, so that each data part must lie in the octets and each depth be 1, and the command is refused with 3007.
- * The record of all numbers 0 is such a draft. The starts of groups are not looked at. V is set exactly where the
- * vendor is not 0; padding and reserved bits are 0. With a refusal the whole output stays as it was, else the octets
- * past the length. */
+ * Groups are the AVPs 260, 284 and 297 without vendor, and 628, 4204 and 4207 of vendor 10415; their starts are not
+ * looked at. V is set exactly where the vendor is not 0; padding and reserved bits are 0. With a refusal the whole
+ * output stays as it was, else the octets past the length. */
 struct TalazumirWritten talazumir_write(const uint32_t record[TALAZUMIR_RECORD_NUMBERS], const uint8_t *octets,
                                         size_t length, uint8_t *out, size_t room);
 

@@ -27,11 +27,6 @@ static void print_numbers(const char *name, const uint32_t *numbers, size_t coun
     printf("\n");
 }
 
-static void print_position(size_t position) {
-    printf("position %zu", position);
-    print_numbers("", record + TALAZUMIR_POSITION(position), TALAZUMIR_AVP_NUMBERS);
-}
-
 static void print_data(size_t position, const uint8_t *octets, size_t length) {
     struct TalazumirPart part = talazumir_data(record, position, octets, length);
     printf("data of position %zu of %zu octets: start %zu length %zu:", position, length, part.start, part.length);
@@ -99,10 +94,10 @@ static void print_seconds(uint32_t start, uint32_t end) {
 int main(void) {
     memset(record, 0xFF, sizeof record);
     print_verdict("S", talazumir_read(S, sizeof S, record));
-    print_numbers("R P E T, code, application, identifiers, count", record, TALAZUMIR_HEAD_NUMBERS);
-    print_position(0);
-    print_position(2);
-    print_position(10);
+    print_numbers("R P E T, identifiers, count", record, 7);
+    print_numbers("position 0", record + TALAZUMIR_POSITION(0), 7);
+    print_numbers("position 2", record + TALAZUMIR_POSITION(2), 7);
+    print_numbers("position 10", record + TALAZUMIR_POSITION(10), 7);
     printf("numbers from position 11 on that are not 0: %zu\n",
            used(record + TALAZUMIR_POSITION(11), TALAZUMIR_RECORD_NUMBERS - TALAZUMIR_POSITION(11)));
     print_data(0, S, sizeof S);
@@ -161,7 +156,7 @@ int main(void) {
     memcpy(error + 20, S + 64, 24);
     memcpy(error + 44, result, sizeof result);
     print_verdict("error answer", talazumir_read(error, sizeof error, record));
-    print_numbers("R P E T, code, application, identifiers, count", record, TALAZUMIR_HEAD_NUMBERS);
+    print_numbers("R P E T, identifiers, count", record, 7);
     print_data(2, error, sizeof error);
     error[4] = 0;
     print_verdict("the same without E", talazumir_read(error, sizeof error, record));
@@ -182,7 +177,7 @@ int main(void) {
     print_altered("263 with a length of 161", TALAZUMIR_POSITION(0) + TALAZUMIR_AVP_LENGTH, 161);
     print_altered("E set", TALAZUMIR_E, 1);
     talazumir_read(S, sizeof S, record);
-    memset(record + TALAZUMIR_POSITION(10), 0, TALAZUMIR_AVP_NUMBERS * sizeof record[0]);
+    memset(record + TALAZUMIR_POSITION(10), 0, 7 * sizeof record[0]);
     record[TALAZUMIR_COUNT] = 10;
     print_written("S without 4208", sizeof output);
 

@@ -60,8 +60,8 @@ static void try_all(uint32_t number) {
     on_stack("seconds", seconds, TALAZUMIR_SECONDS_STACK, 1);
     on_stack("link_fresh", link_fresh, TALAZUMIR_LINK_FRESH_STACK, 0);
     on_stack("link_take", link_take, TALAZUMIR_LINK_TAKE_STACK, length == 0 ? TALAZUMIR_NO_VERDICT : number);
-    /* the empty record is a draft of no AVP, for neither application */
-    on_stack("write", write_draft, TALAZUMIR_WRITE_STACK, number == 0 ? 0 : 3007);
+    /* the empty record is a draft of no AVP, whose command has neither R nor P */
+    on_stack("write", write_draft, TALAZUMIR_WRITE_STACK, number == 0 ? 0 : 3008);
 }
 
 /* S with this many groups 284, each the last member of the one before, with its 280 and 33. */

@@ -3,13 +3,12 @@
 ghost use Rattle.std.specs.Prelude.{◌≡◌, false, ◌-◌, ◌≤◌, ◌<◌, length};
 ghost use Rattle.rules.specs.Command.{command_verdict};
 ghost use Rattle.rules.specs.Book.{is_cut, is_book, command_in, acceptance};
-ghost use Rattle.rules.specs.Profile.{profile};
 ghost use Rattle.dictionary.specs.Table.{IsTable};
 ghost use Rattle.lines.specs.Promise.{Put, PutWithin};
 ghost use Rattle.book.specs.Promise.{ListingPut, HeadPut, lines_of, room};
 
-use dictionary::codes;
-use rules::{Application, Verdict, limits};
+use dictionary::plain;
+use rules::{Verdict, limits};
 
 // One to three octets left, a length under 20, or one past the end.
 fn is_cut(book: &[u8], offset: usize) -> bool
@@ -31,16 +30,15 @@ fn is_cut(book: &[u8], offset: usize) -> bool
 fn verdict_at(
     book: &[u8],
     offset: usize,
-    nt: &[u8; codes::CODES],
-    nta: &[u8; codes::CODES],
+    table: &[u8; plain::PLAIN_CODES],
     log: &mut [u32; limits::LOG_NUMBERS],
 ) -> Verdict
     requires place { (offset < length book.now) × (is_cut book.now offset ≡ false) }
-    requires tables { IsTable (profile Application.Nt) nt.now × IsTable (profile Application.Nta) nta.now }
+    requires table { IsTable table.now }
     ensures { result ≡ command_verdict (command_in book.now offset) }
 {
     let end = offset + octets::number3(book, offset + 1) as usize;
-    reader::verdict_by(&book[offset..end], nt, nta, log)
+    reader::verdict_by(&book[offset..end], table, log)
 }
 
 fn acceptance_of(v: Verdict) -> u64
@@ -52,18 +50,17 @@ fn acceptance_of(v: Verdict) -> u64
     0
 }
 
-// The lines behind the head line, by the tables of codes, which are made once a book: one line for each command, then
-// `end` or a cut.
+// The lines behind the head line, by the table of plain codes, which is made once a book: one line for each command,
+// then `end` or a cut.
 fn put_lines(
     book: &[u8],
     out: &mut [u8; limits::LISTING_ROOM],
     start: usize,
-    nt: &[u8; codes::CODES],
-    nta: &[u8; codes::CODES],
+    table: &[u8; plain::PLAIN_CODES],
     log: &mut [u32; limits::LOG_NUMBERS],
 ) -> usize
     requires head { HeadPut book.now start }
-    requires tables { IsTable (profile Application.Nt) nt.now × IsTable (profile Application.Nta) nta.now }
+    requires table { IsTable table.now }
     ensures { PutWithin (room - 6) out.old start (lines_of book.now) result out.new }
 {
     let mut at = start;
@@ -74,7 +71,7 @@ fn put_lines(
         if is_cut(book, offset) {
             return lines::put_cut_line(out, at, commands + 1, offset as u64);
         }
-        let v = verdict_at(book, offset, nt, nta, log);
+        let v = verdict_at(book, offset, table, log);
         commands += 1;
         at = lines::put_command_line(out, at, commands, offset as u64, v);
         accepted += acceptance_of(v);
@@ -112,11 +109,10 @@ pub fn listing(book: &[u8], out: &mut [u8; limits::LISTING_ROOM]) -> usize
     ensures { ListingPut book.now out.old result out.new }
 {
     if is_book(book) {
-        let nt = dictionary::table_of(Application::Nt);
-        let nta = dictionary::table_of(Application::Nta);
+        let table = dictionary::plain_table();
         let mut log = [0u32; limits::LOG_NUMBERS];
         let start = put_first_line(out, b"NTB 1\n");
-        return put_lines(book, out, start, &nt, &nta, &mut log);
+        return put_lines(book, out, start, &table, &mut log);
     }
     put_first_line(out, b"not a book\n")
 }

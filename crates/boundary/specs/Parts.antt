@@ -9,8 +9,7 @@ use Rattle.rules.specs.Command.{command_outcome, command_verdict}
 use Rattle.rules.specs.Record.{reading, data_start, data_length, data_at, search_record}
 use Rattle.rules.specs.Search.{position_of}
 use Rattle.rules.specs.Draft.{draft_of}
-use Rattle.numbers.specs.Layout.{record_numbers}
-use Rattle.numbers.specs.Numbers.{numbers_of, numbered_record}
+use Rattle.numbers.specs.Numbers.{numbers_of, record_numbers, numbered_record}
 use Rattle.numbers.specs.Draft.{numbered_draft}
 use Rattle.boundary.specs.declared.Part.{Part}
 use Rattle.boundary.specs.declared.SoughtNumbers.{SoughtNumbers}

@@ -11,7 +11,7 @@ ghost use Rattle.writer.specs.Promise.{IsWritten};
 ghost use Rattle.canonical.specs.Promise.{IsCanonical};
 ghost use Rattle.boundary.specs.Parts.{IsRead, IsData, search_numbers};
 
-use rules::{Found, Outcome, Verdict, Written, layout, limits};
+use rules::{Found, Outcome, Verdict, Written, limits};
 
 mod link;
 
@@ -41,7 +41,7 @@ pub extern "C" fn talazumir_verdict(s: &[u8], log: &mut [u32; limits::LOG_NUMBER
 
 // The verdict of a command, and its record as numbers, written straight from a log; all 0 with a refusal.
 #[unsafe(no_mangle)]
-pub extern "C" fn talazumir_read(s: &[u8], numbers: &mut [u32; layout::RECORD_NUMBERS]) -> Verdict
+pub extern "C" fn talazumir_read(s: &[u8], numbers: &mut [u32; limits::RECORD_NUMBERS]) -> Verdict
     ensures { IsRead s.now result numbers.new }
 {
     let mut log = [0u32; limits::LOG_NUMBERS];
@@ -64,7 +64,7 @@ pub extern "C" fn talazumir_read(s: &[u8], numbers: &mut [u32; layout::RECORD_NU
 // the part does not lie in the slice.
 #[unsafe(no_mangle)]
 pub extern "C" fn talazumir_data(
-    numbers: &[u32; layout::RECORD_NUMBERS],
+    numbers: &[u32; limits::RECORD_NUMBERS],
     position: usize,
     s: &[u8],
 ) -> Part
@@ -103,7 +103,7 @@ fn position_of(found: Found) -> u32
 // for none, and how many there are.
 #[unsafe(no_mangle)]
 pub extern "C" fn talazumir_search(
-    numbers: &[u32; layout::RECORD_NUMBERS],
+    numbers: &[u32; limits::RECORD_NUMBERS],
     vendor: u32,
     code: u32,
     ordinal: usize,
@@ -121,7 +121,7 @@ pub extern "C" fn talazumir_search(
 // Writes the draft that the numbers and the octets stand for; a flag that is neither 0 nor 1 is 7006.
 #[unsafe(no_mangle)]
 pub extern "C" fn talazumir_write(
-    numbers: &[u32; layout::RECORD_NUMBERS],
+    numbers: &[u32; limits::RECORD_NUMBERS],
     s: &[u8],
     out: &mut [u8],
 ) -> Written

@@ -1,11 +1,9 @@
 -- The entries of a dictionary by their numbers (request [6]: what a table of numbers leads to). The number of an entry
--- is its position in the dictionary, from 0; what a number says does not depend on the application (02, [12]), only
--- which names lead to it.
-use Rattle.std.specs.Prelude.{ℕ, zero, suc, ◌+◌, ◌*◌, List, [], ◌∷◌, Bool, cond, ◌&&◌, eqb, length}
+-- is its position in the dictionary, from 0.
+use Rattle.std.specs.Prelude.{ℕ, zero, suc, ◌+◌, ◌*◌, List, [], ◌∷◌, Bool, cond, ◌&&◌, eqb}
 use Rattle.rules.specs.declared.Definition.{Definition}
 use Rattle.rules.specs.declared.Definition.TheVariants.{Known, Unknown}
-use Rattle.rules.specs.Dictionary.{Entry, dictionary_nta, find, is_known, requires_m, is_group, fixed_width}
-use Rattle.rules.specs.Profile.{Profile}
+use Rattle.rules.specs.Dictionary.{Entry, requires_m, is_group, fixed_width}
 
 -- the number of the first entry that passes a test; where none does, the number behind the last
 unfoldable pub number_where : (Entry → Bool) → List Entry → ℕ
@@ -17,21 +15,13 @@ number_where test (e ∷ es) = cond (test e) 0 (suc (number_where test es))
 abbrev pub entry_of : List Entry → ℕ → ℕ → ℕ
 entry_of dict vendor code = number_where (λ e. eqb code e.code && eqb vendor e.vendor) dict
 
--- the entries of both applications: Nta's dictionary begins with Nt's, so an entry has one number in both
-abbrev pub every_entry : List Entry
-every_entry = dictionary_nta
+-- 3GPP's codes for Nt alone start here, and those of its AVPs that Nt re-uses are lower
+abbrev pub least_nt_code : ℕ
+least_nt_code = 4201
 
--- Nta's own entries start here
-abbrev pub least_nta : ℕ
-least_nta = 48
-
--- the number of a name that has no entry
-abbrev pub no_entry : ℕ
-no_entry = length every_entry
-
--- the number of a name's entry in an application
-unfoldable pub number_in : Profile → ℕ → ℕ → ℕ
-number_in p vendor code = cond (is_known (find p.entries vendor code)) (entry_of every_entry vendor code) no_entry
+-- and there are so many, one after the other
+abbrev pub nt_codes : ℕ
+nt_codes = 9
 
 -- what is said of the entry with a number, or else of none
 abbrev pub said_at : {A : Type 0} → A → (Entry → A) → List Entry → ℕ → A

@@ -1,17 +1,14 @@
-// The AVP kinds of document 01's dictionary and behind them those that Nta adds (02, [12]), in the order of the
-// entries: Vendor-Id, AVP code and, where it is fixed, the width of the data, as constants of each kind; the number of
-// its entry, which is its position; and the facts of the entry in one number. The code names an AVP by these alone; in
+// The AVP kinds of document 01's dictionary, in the order of its entries: Vendor-Id, AVP code and, where it is fixed,
+// the width of the data, as constants of each kind; the number of its entry, which is its position; and the facts of
+// the entry in one number. The code names an AVP by these alone; in
 // `lists::admission_table` a place has its kind as a comment.
 use rules::limits::{NO_VENDOR, VENDOR_3GPP};
 
 // The number of a name that has no entry: behind the last one.
-pub const NO_ENTRY: u8 = 55;
+pub const NO_ENTRY: u8 = 48;
 
 // How many entries there are.
 pub const ENTRIES: usize = NO_ENTRY as usize;
-
-// Nta's own entries come last (02, [12]), from this one on.
-pub(crate) const LEAST_NTA: u8 = 48;
 
 // The facts of an entry as digits of one number: whether M must be set, whether the data is a group, and its width.
 const M_FREE: u8 = 0;
@@ -716,109 +713,6 @@ impl TransferPolicy {
     pub const CODE: u32 = 4207;
 
     pub const ENTRY: u8 = 47;
-
-    pub(crate) const FACTS: u8 = M_REQUIRED + GROUP;
-}
-
-// 02, [12], Nta: any length
-
-#[derive(Drop)]
-pub struct AccessNetworkReports;
-
-impl AccessNetworkReports {
-    pub const VENDOR: u32 = VENDOR_3GPP;
-
-    pub const CODE: u32 = 4210;
-
-    pub const ENTRY: u8 = 48;
-
-    pub(crate) const FACTS: u8 = M_REQUIRED;
-}
-
-#[derive(Drop)]
-pub struct EventConfiguration;
-
-impl EventConfiguration {
-    pub const VENDOR: u32 = VENDOR_3GPP;
-
-    pub const CODE: u32 = 4211;
-
-    pub const ENTRY: u8 = 49;
-
-    pub(crate) const FACTS: u8 = M_REQUIRED;
-}
-
-#[derive(Drop)]
-pub struct EventConfigurationStatus;
-
-impl EventConfigurationStatus {
-    pub const VENDOR: u32 = VENDOR_3GPP;
-
-    pub const CODE: u32 = 4213;
-
-    pub const ENTRY: u8 = 50;
-
-    pub(crate) const FACTS: u8 = M_REQUIRED;
-}
-
-// Nta: four octets
-
-#[derive(Drop)]
-pub struct EventConfigurationState;
-
-impl EventConfigurationState {
-    pub const VENDOR: u32 = VENDOR_3GPP;
-
-    pub const CODE: u32 = 4212;
-
-    pub const WIDTH: u32 = 4;
-
-    pub const ENTRY: u8 = 51;
-
-    pub(crate) const FACTS: u8 = M_REQUIRED + ONE_OCTET * EventConfigurationState::WIDTH as u8;
-}
-
-#[derive(Drop)]
-pub struct EventReportingResults;
-
-impl EventReportingResults {
-    pub const VENDOR: u32 = VENDOR_3GPP;
-
-    pub const CODE: u32 = 4214;
-
-    pub const WIDTH: u32 = 4;
-
-    pub const ENTRY: u8 = 52;
-
-    pub(crate) const FACTS: u8 = M_REQUIRED + ONE_OCTET * EventReportingResults::WIDTH as u8;
-}
-
-#[derive(Drop)]
-pub struct ExtendedScefReferenceId;
-
-impl ExtendedScefReferenceId {
-    pub const VENDOR: u32 = VENDOR_3GPP;
-
-    pub const CODE: u32 = 4216;
-
-    pub const WIDTH: u32 = 4;
-
-    pub const ENTRY: u8 = 53;
-
-    pub(crate) const FACTS: u8 = M_REQUIRED + ONE_OCTET * ExtendedScefReferenceId::WIDTH as u8;
-}
-
-// Nta: a group
-
-#[derive(Drop)]
-pub struct EventReports;
-
-impl EventReports {
-    pub const VENDOR: u32 = VENDOR_3GPP;
-
-    pub const CODE: u32 = 4215;
-
-    pub const ENTRY: u8 = 54;
 
     pub(crate) const FACTS: u8 = M_REQUIRED + GROUP;
 }

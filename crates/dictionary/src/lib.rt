@@ -1,26 +1,23 @@
-// 01, Dictionary, and 02, [12]: the number of a name's entry, through an application's table (request [6]) or by a
-// `match`; and what an entry says, which is the same in each application. Each arm of a `match` stands for one kind, by
-// its constants.
+// 01, Dictionary: the number of a name's entry, for plain codes through the constant table of request [6], for 3GPP's
+// through a table of nine numbers or by a `match`; and what an entry says. Each arm of a `match` stands for one kind,
+// by its constants.
 ghost use Rattle.std.specs.Prelude.{◌≡◌, cond, eqb, ◌≤◌, ◌<◌};
 ghost use Rattle.rules.specs.Header.{vendor_3gpp};
 ghost use Rattle.rules.specs.Verdict.{Answers};
-ghost use Rattle.rules.specs.Dictionary.{find, dictionary, dictionary_nta, requires_m, is_known, members_of, is_group, fixed_width, rows_number};
-ghost use Rattle.rules.specs.Profile.{nt, profile};
+ghost use Rattle.rules.specs.Dictionary.{find, dictionary, requires_m, is_known, members_of, is_group, fixed_width, rows_number};
 ghost use Rattle.rules.specs.Meaning.{is_read_group};
-ghost use Rattle.dictionary.specs.Entries.{every_entry, least_nta, number_in, vendor_of, code_of, definition_at, facts_of};
-ghost use Rattle.dictionary.specs.Table.{least_nt_code, plain_part, nt_part, entry_in, entry_by, IsTable, tabled};
+ghost use Rattle.dictionary.specs.Entries.{entry_of, least_nt_code, vendor_of, code_of, definition_at, facts_of};
+ghost use Rattle.dictionary.specs.Table.{plain_entry, entry_by, IsTable, IsNtTable};
 
-use rules::{Application, Grammar, Members, limits};
+use rules::{Grammar, Members, limits};
 
-mod applications;
-pub mod codes;
 pub mod kinds;
-
-pub use applications::application_of;
+mod nt;
+pub mod plain;
 
 // The Vendor-Id of an entry, 0 where the number is no entry's.
 pub fn vendor_of(entry: u8) -> u32
-    ensures { result ≡ vendor_of every_entry entry }
+    ensures { result ≡ vendor_of dictionary entry }
 {
     match entry {
         kinds::AuthApplicationId::ENTRY => kinds::AuthApplicationId::VENDOR,
@@ -72,20 +69,13 @@ pub fn vendor_of(entry: u8) -> u32
         kinds::ReferenceId::ENTRY => kinds::ReferenceId::VENDOR,
         kinds::TimeWindow::ENTRY => kinds::TimeWindow::VENDOR,
         kinds::TransferPolicy::ENTRY => kinds::TransferPolicy::VENDOR,
-        kinds::AccessNetworkReports::ENTRY => kinds::AccessNetworkReports::VENDOR,
-        kinds::EventConfiguration::ENTRY => kinds::EventConfiguration::VENDOR,
-        kinds::EventConfigurationStatus::ENTRY => kinds::EventConfigurationStatus::VENDOR,
-        kinds::EventConfigurationState::ENTRY => kinds::EventConfigurationState::VENDOR,
-        kinds::EventReportingResults::ENTRY => kinds::EventReportingResults::VENDOR,
-        kinds::ExtendedScefReferenceId::ENTRY => kinds::ExtendedScefReferenceId::VENDOR,
-        kinds::EventReports::ENTRY => kinds::EventReports::VENDOR,
         _ => limits::NO_VENDOR,
     }
 }
 
 // The AVP code of an entry, 0 where the number is no entry's.
 pub fn code_of(entry: u8) -> u32
-    ensures { result ≡ code_of every_entry entry }
+    ensures { result ≡ code_of dictionary entry }
 {
     match entry {
         kinds::AuthApplicationId::ENTRY => kinds::AuthApplicationId::CODE,
@@ -137,66 +127,34 @@ pub fn code_of(entry: u8) -> u32
         kinds::ReferenceId::ENTRY => kinds::ReferenceId::CODE,
         kinds::TimeWindow::ENTRY => kinds::TimeWindow::CODE,
         kinds::TransferPolicy::ENTRY => kinds::TransferPolicy::CODE,
-        kinds::AccessNetworkReports::ENTRY => kinds::AccessNetworkReports::CODE,
-        kinds::EventConfiguration::ENTRY => kinds::EventConfiguration::CODE,
-        kinds::EventConfigurationStatus::ENTRY => kinds::EventConfigurationStatus::CODE,
-        kinds::EventConfigurationState::ENTRY => kinds::EventConfigurationState::CODE,
-        kinds::EventReportingResults::ENTRY => kinds::EventReportingResults::CODE,
-        kinds::ExtendedScefReferenceId::ENTRY => kinds::ExtendedScefReferenceId::CODE,
-        kinds::EventReports::ENTRY => kinds::EventReports::CODE,
         _ => 0,
     }
 }
 
-// The table of an application; neither, which has no commands, gets Nt's. Nta's is Nt's, with its own codes from 4210 on.
-pub fn table_of(application: Application) -> [u8; codes::CODES]
-    ensures { IsTable (tabled application) result }
+// The table of 3GPP's codes for Nt alone. Nine octets are made in two stores, so it need not be lent.
+fn nt_table() -> [u8; nt::CODES]
+    ensures { IsNtTable result }
 {
-    let mut table = codes::TABLE;
-    match application {
-        Application::Nt => table,
-        Application::Nta => {
-            table[codes::PLACE_4210] = kinds::AccessNetworkReports::ENTRY;
-            table[codes::PLACE_4210 + 1] = kinds::EventConfiguration::ENTRY;
-            table[codes::PLACE_4210 + 2] = kinds::EventConfigurationState::ENTRY;
-            table[codes::PLACE_4210 + 3] = kinds::EventConfigurationStatus::ENTRY;
-            table[codes::PLACE_4210 + 4] = kinds::EventReportingResults::ENTRY;
-            table[codes::PLACE_4210 + 5] = kinds::EventReports::ENTRY;
-            table[codes::PLACE_4210 + 6] = kinds::ExtendedScefReferenceId::ENTRY;
-            table
-        }
-        Application::Neither => table,
-    }
+    nt::TABLE
 }
 
-// What a table leads a code without vendor to.
-fn plain_entry(table: &[u8; codes::CODES], code: u32) -> u8
-    ensures { result ≡ entry_in plain_part table.now code }
+// The entry of a code that 3GPP has for Nt alone. A `match` on the code is compiled to a jump, which is slower.
+fn entry_of_nt(code: u32) -> u8
+    requires { least_nt_code ≤ code }
+    ensures { result ≡ entry_of dictionary vendor_3gpp code }
 {
-    let place = code as usize;
-    if codes::PLAIN_CODES <= place {
+    let place = (code - kinds::NetworkAreaInfoList::CODE) as usize;
+    if nt::CODES <= place {
         return kinds::NO_ENTRY;
     }
+    let table = nt_table();
     table[place]
 }
 
-// What a table leads a code to that 3GPP has for Nt and Nta alone. A `match` on the code is compiled to a jump, which
-// is slower.
-fn nt_entry(table: &[u8; codes::CODES], code: u32) -> u8
-    requires { least_nt_code ≤ code }
-    ensures { result ≡ entry_in nt_part table.now code }
-{
-    let place = (code - kinds::NetworkAreaInfoList::CODE) as usize;
-    if codes::NT_CODES <= place {
-        return kinds::NO_ENTRY;
-    }
-    table[codes::PLAIN_CODES + place]
-}
-
-// The entry of a code that 3GPP has for other applications too, which Nt and Nta re-use.
+// The entry of a code that 3GPP has for other applications too, which Nt re-uses.
 fn entry_of_reused(code: u32) -> u8
     requires { code < least_nt_code }
-    ensures { result ≡ number_in nt vendor_3gpp code }
+    ensures { result ≡ entry_of dictionary vendor_3gpp code }
 {
     match code {
         kinds::FeatureListId::CODE => kinds::FeatureListId::ENTRY,
@@ -211,37 +169,55 @@ fn entry_of_reused(code: u32) -> u8
     }
 }
 
-// The entry of a name of 3GPP by a table. The codes for Nt and Nta alone are dense, and have a part of it.
-fn entry_of_3gpp(table: &[u8; codes::CODES], code: u32) -> u8
-    ensures { result ≡ entry_by table.now vendor_3gpp code }
+// The search of the dictionary for a name of 3GPP. The codes for Nt alone are dense, and have a part of their own.
+fn entry_of_3gpp(code: u32) -> u8
+    ensures { result ≡ entry_of dictionary vendor_3gpp code }
 {
     if kinds::NetworkAreaInfoList::CODE <= code {
-        return nt_entry(table, code);
+        return entry_of_nt(code);
     }
     entry_of_reused(code)
 }
 
-// The entry of a name by a table: a name that has a place through the table, another as a search of document 01's
-// dictionary finds it; only 3GPP has others. By an application's table it is its number in the application.
-pub fn entry_by(table: &[u8; codes::CODES], vendor: u32, code: u32) -> u8
+// The table of plain codes. A constant array is built anew where it is named, so the table is made once and lent.
+pub fn plain_table() -> [u8; plain::PLAIN_CODES]
+    ensures { IsTable result }
+{
+    plain::TABLE
+}
+
+// What a table leads a code without vendor to.
+fn plain_entry(table: &[u8; plain::PLAIN_CODES], code: u32) -> u8
+    ensures { result ≡ plain_entry table.now code }
+{
+    let place = code as usize;
+    if plain::PLAIN_CODES <= place {
+        return kinds::NO_ENTRY;
+    }
+    table[place]
+}
+
+// The entry of a name by a table of plain codes: a name without vendor through the table, another as the search finds
+// it; only 3GPP has entries. By the table above it is always as the search finds it.
+pub fn entry_by(table: &[u8; plain::PLAIN_CODES], vendor: u32, code: u32) -> u8
     ensures { result ≡ entry_by table.now vendor code }
 {
     match vendor {
         limits::NO_VENDOR => plain_entry(table, code),
-        limits::VENDOR_3GPP => entry_of_3gpp(table, code),
+        limits::VENDOR_3GPP => entry_of_3gpp(code),
         _ => kinds::NO_ENTRY,
     }
 }
 
 // Whether a number is an entry's.
 pub fn is_known(entry: u8) -> bool
-    ensures { result ≡ is_known (definition_at every_entry entry) }
+    ensures { result ≡ is_known (definition_at dictionary entry) }
 {
     entry < kinds::NO_ENTRY
 }
 
-// The facts of an entry of Nt, none where the number is none of its. Every entry has an arm: a dense `match` is compiled
-// to masks, which Nta's entries would make too wide, so that they have functions of their own.
+// The facts of an entry, none where the number is no entry's. Every entry has an arm: a dense `match` is compiled to
+// masks and tables.
 fn facts(entry: u8) -> u8
     ensures { result ≡ facts_of (definition_at dictionary entry) }
 {
@@ -299,64 +275,30 @@ fn facts(entry: u8) -> u8
     }
 }
 
-// Whether M must be set: of Nta's own entries in all.
+// Whether M must be set.
 pub fn requires_m(entry: u8) -> bool
-    ensures { result ≡ requires_m (definition_at every_entry entry) }
+    ensures { result ≡ requires_m (definition_at dictionary entry) }
 {
-    if kinds::LEAST_NTA <= entry {
-        return is_known(entry);
-    }
     facts(entry) % kinds::GROUP == kinds::M_REQUIRED
-}
-
-// The width of the data of Nta's own entries: three of any length, three of four octets, and a group. A `match` here is
-// compiled with that of the facts into a table, which is slower for every entry.
-fn nta_width(entry: u8) -> u32
-    requires { least_nta ≤ entry }
-    ensures { result ≡ fixed_width (definition_at every_entry entry) }
-{
-    if entry < kinds::EventConfigurationState::ENTRY {
-        return 0;
-    }
-    if entry < kinds::EventReports::ENTRY {
-        return kinds::EventConfigurationState::WIDTH;
-    }
-    0
 }
 
 // The width of the data where it is fixed, 0 where any length passes.
 pub fn width(entry: u8) -> u32
-    ensures { result ≡ fixed_width (definition_at every_entry entry) }
+    ensures { result ≡ fixed_width (definition_at dictionary entry) }
 {
-    if kinds::LEAST_NTA <= entry {
-        return nta_width(entry);
-    }
     (facts(entry) / kinds::ONE_OCTET) as u32
-}
-
-// Whether the data of an entry is read as a list, by its rows.
-fn nta_group(entry: u8) -> bool
-    ensures { result ≡ is_group (definition_at every_entry entry) }
-{
-    let Members::Under(_) = members_of(entry) else {
-        return false;
-    };
-    true
 }
 
 // Whether the data is read as a list.
 pub fn is_group(entry: u8) -> bool
-    ensures { result ≡ is_group (definition_at every_entry entry) }
+    ensures { result ≡ is_group (definition_at dictionary entry) }
 {
-    if kinds::LEAST_NTA <= entry {
-        return nta_group(entry);
-    }
     facts(entry) % kinds::ONE_OCTET >= kinds::GROUP
 }
 
 // The rows that the members of an entry's group go by.
 pub fn members_of(entry: u8) -> Members
-    ensures { Answers rows_number (members_of (definition_at every_entry entry)) result }
+    ensures { Answers rows_number (members_of (definition_at dictionary entry)) result }
 {
     match entry {
         kinds::VendorSpecificApplicationId::ENTRY => Members::Under(
@@ -367,7 +309,6 @@ pub fn members_of(entry: u8) -> Members
         kinds::SupportedFeatures::ENTRY => Members::Under(Grammar::SupportedFeatures),
         kinds::TimeWindow::ENTRY => Members::Under(Grammar::TimeWindow),
         kinds::TransferPolicy::ENTRY => Members::Under(Grammar::TransferPolicy),
-        kinds::EventReports::ENTRY => Members::Under(Grammar::EventReports),
         _ => Members::NoMembers,
     }
 }
@@ -382,7 +323,7 @@ fn under(vendor: u32, own: u32, grammar: Grammar) -> Members
     Members::NoMembers
 }
 
-// The rows that the members of a group of document 01's go by, by its name. It looks at groups alone, so it is shorter than the search.
+// The rows that the members of a name's group go by. It looks at groups alone, so it is shorter than the search.
 fn members(vendor: u32, code: u32) -> Members
     ensures { Answers rows_number (members_of (find dictionary vendor code)) result }
 {
@@ -413,33 +354,12 @@ fn members(vendor: u32, code: u32) -> Members
     }
 }
 
-// A name of document 01 whose data is read as a list.
-fn is_nt_group(vendor: u32, code: u32) -> bool
+// A name whose data is read as a list.
+pub fn is_read_group(vendor: u32, code: u32) -> bool
     ensures { result ≡ is_read_group dictionary vendor code }
 {
     let Members::Under(_) = members(vendor, code) else {
         return false;
     };
     true
-}
-
-// The same by Nta's dictionary, which adds one group.
-fn is_nta_group(vendor: u32, code: u32) -> bool
-    ensures { result ≡ is_read_group dictionary_nta vendor code }
-{
-    if code == kinds::EventReports::CODE {
-        return vendor == kinds::EventReports::VENDOR;
-    }
-    is_nt_group(vendor, code)
-}
-
-// A name whose data is read as a list, by the dictionary of an application.
-pub fn is_read_group(application: Application, vendor: u32, code: u32) -> bool
-    ensures { result ≡ is_read_group (profile application).entries vendor code }
-{
-    match application {
-        Application::Nt => is_nt_group(vendor, code),
-        Application::Nta => is_nta_group(vendor, code),
-        Application::Neither => false,
-    }
 }

@@ -1,31 +1,17 @@
 -- The promises of the tests of a draft and of its sizes. What does not depend on a draft's octets is promised for all
--- of them, and what does not depend on its dictionary for every dictionary.
+-- of them.
 use Rattle.std.specs.Prelude.{◌≡◌, ℕ, ◌+◌, ◌*◌, ◌^◌, ◌≤◌, ◌<◌, List, Bool, cond, length, get_or, drop, eqb}
-use Rattle.rules.specs.declared.Application.{Application}
 use Rattle.rules.specs.declared.Avp.{Avp}
 use Rattle.rules.specs.Header.{header_size}
-use Rattle.rules.specs.Dictionary.{Entry}
 use Rattle.rules.specs.Walk.{most_avps}
-use Rattle.rules.specs.Meaning.{cell_of}
-use Rattle.rules.specs.Draft.{draft_of, cells_of, next_depth, full_size, members_size}
-use Rattle.rules.specs.Verdict.{Answers}
-use Rattle.rules.specs.Profile.{application_numbers}
+use Rattle.rules.specs.Draft.{draft_of, cells_of, full_size, members_size}
 use Rattle.numbers.specs.Numbers.{numbered_record, numbered_avp, numbered_used}
-use Rattle.draft.specs.Drafts.{draft_application, draft_cells, has_size}
+use Rattle.draft.specs.Drafts.{draft_cell, draft_cells, has_size}
 
 -- each number fits four octets
 pub record AreSmall (numbers : List ℕ) (r : ℕ) : Type 0 where
   pub is : r ≡ length numbers
   pub small : (i : ℕ) → get_or numbers i 0 < 2 ^ 32
-
--- 02, [12]: the application by which the groups of a draft are read
-abbrev pub IsApplication : List ℕ → Application → Type 0
-IsApplication numbers r =
-    (s : List ℕ) → Answers application_numbers (draft_application (draft_of (numbered_record numbers) s)) r
-
--- the greatest depth that may follow an AVP
-abbrev pub IsNextDepth : List Entry → Avp → ℕ → Type 0
-IsNextDepth dict a r = (s : List ℕ) → r ≡ next_depth dict (cell_of dict s a)
 
 -- the most octets of an AVP: a header with a vendor, and data of a length of four octets with its padding
 abbrev pub longest_avp : ℕ
@@ -33,24 +19,23 @@ longest_avp = 12 + 2 ^ 32
 
 -- the octets of an AVP with its padding
 pub record IsFullSize (a : Avp) (r : ℕ) : Type 0 where
-  pub is : (dict : List Entry) (s : List ℕ) → r ≡ full_size (cell_of dict s a)
+  pub is : (s : List ℕ) → r ≡ full_size (draft_cell s a)
   pub small : r ≤ longest_avp
 
 -- those of an AVP at a depth, none at another
 pub record IsSizeAt (a : Avp) (depth r : ℕ) : Type 0 where
-  pub is : (dict : List Entry) (s : List ℕ) → r ≡ cond (eqb a.depth depth) (full_size (cell_of dict s a)) 0
+  pub is : (s : List ℕ) → r ≡ cond (eqb a.depth depth) (full_size (draft_cell s a)) 0
   pub small : r ≤ longest_avp
 
 -- those of the members at a depth, from a position on
 pub record IsMembersSize (numbers : List ℕ) (from depth r : ℕ) : Type 0 where
-  pub is : (dict : List Entry) (s : List ℕ)
-      → r ≡ members_size depth (draft_cells dict s (drop from (numbered_used numbers)))
+  pub is : (s : List ℕ) → r ≡ members_size depth (draft_cells s (drop from (numbered_used numbers)))
   pub small : r ≤ most_avps * longest_avp
 
 -- whether the AVP at a position, where it is a read group, has the length of its members
-abbrev pub HasSize : List Entry → List ℕ → ℕ → Bool → Type 0
-HasSize dict numbers i r =
-    (s : List ℕ) → r ≡ has_size dict (numbered_avp numbers i) (draft_cells dict s (drop (i + 1) (numbered_used numbers)))
+abbrev pub HasSize : List ℕ → ℕ → Bool → Type 0
+HasSize numbers i r =
+    (s : List ℕ) → r ≡ has_size (numbered_avp numbers i) (draft_cells s (drop (i + 1) (numbered_used numbers)))
 
 -- the header and the members at depth 1: the octets of the command, whatever octets the draft is over
 pub record IsCommandSize (numbers : List ℕ) (r : ℕ) : Type 0 where

@@ -1,15 +1,16 @@
 // 01, The record and the writer, 7006: the tests of a draft whose record is given as numbers, one after the other, and
-// the size of its command. That application, identifiers, vendors and codes fit four octets is so by their type.
+// the size of its command. That identifiers, vendors and codes fit four octets is so by their type.
 ghost use Rattle.std.specs.Prelude.{◌≡◌, ◌&&◌, List, ℕ, ◌≤◌, ◌<◌, leb, length, drop};
-ghost use Rattle.rules.specs.Profile.{profile};
+ghost use Rattle.rules.specs.Dictionary.{dictionary};
 ghost use Rattle.rules.specs.Walk.{most_avps, deepest};
-ghost use Rattle.rules.specs.Draft.{draft_of, is_blank, all_blank, is_placed, all_placed, is_well_formed};
+ghost use Rattle.rules.specs.Draft.{draft_of, is_blank, all_blank, is_placed, all_placed};
+ghost use Rattle.rules.specs.Draft.{next_depth, is_tree, has_sizes, is_well_formed};
 ghost use Rattle.numbers.specs.Numbers.{numbered_record, numbered_used};
 ghost use Rattle.numbers.specs.Draft.{numbered_draft};
-ghost use Rattle.draft.specs.Drafts.{is_treed, is_sized, code_fits};
-ghost use Rattle.draft.specs.Promise.{AreSmall, IsApplication, IsNextDepth, HasSize, IsCommandSize};
+ghost use Rattle.draft.specs.Drafts.{draft_cell, draft_cells};
+ghost use Rattle.draft.specs.Promise.{AreSmall, HasSize, IsCommandSize};
 
-use rules::{Application, Avp, layout, limits};
+use rules::{Avp, limits};
 
 mod sizes;
 
@@ -51,7 +52,7 @@ fn is_blank(a: Avp) -> bool
     a.length == 0
 }
 
-fn are_blank(numbers: &[u32; layout::RECORD_NUMBERS], from: usize) -> bool
+fn are_blank(numbers: &[u32; limits::RECORD_NUMBERS], from: usize) -> bool
     ensures { result ≡ all_blank (drop from (numbered_record numbers.now).avps) }
 {
     let mut i = from;
@@ -65,26 +66,22 @@ fn are_blank(numbers: &[u32; layout::RECORD_NUMBERS], from: usize) -> bool
 }
 
 // The data part of an AVP that is no read group lies in the octets.
-fn is_placed(application: Application, a: Avp, size: usize) -> bool
-    ensures { result ≡ is_placed (profile application).entries size a }
+fn is_placed(a: Avp, size: usize) -> bool
+    ensures { result ≡ is_placed dictionary size a }
 {
-    if dictionary::is_read_group(application, a.vendor, a.code) {
+    if dictionary::is_read_group(a.vendor, a.code) {
         return true;
     }
     a.start as usize + a.length as usize <= size
 }
 
-fn are_placed(
-    application: Application,
-    numbers: &[u32; layout::RECORD_NUMBERS],
-    size: usize,
-) -> bool
-    ensures { result ≡ all_placed (profile application).entries size (numbered_used numbers.now) }
+fn are_placed(numbers: &[u32; limits::RECORD_NUMBERS], size: usize) -> bool
+    ensures { result ≡ all_placed dictionary size (numbered_used numbers.now) }
 {
     let used = numbers::used(numbers);
     let mut i: usize = 0;
     while i < used {
-        if !is_placed(application, numbers::get(numbers, i), size) {
+        if !is_placed(numbers::get(numbers, i), size) {
             return false;
         }
         i += 1;
@@ -106,18 +103,18 @@ fn is_in_tree(depth: u32, most: u32) -> bool
 }
 
 // The greatest depth that may follow an AVP: one more only after a read group.
-fn next_depth(application: Application, a: Avp) -> u32
+fn next_depth(a: Avp) -> u32
     requires { a.depth ≤ deepest }
-    ensures { IsNextDepth (profile application).entries a result }
+    ensures { (s : List ℕ) → result ≡ next_depth dictionary (draft_cell s a) }
 {
-    if dictionary::is_read_group(application, a.vendor, a.code) {
+    if dictionary::is_read_group(a.vendor, a.code) {
         return a.depth + 1;
     }
     a.depth
 }
 
-fn is_tree(application: Application, numbers: &[u32; layout::RECORD_NUMBERS]) -> bool
-    ensures { (s : List ℕ) → result ≡ is_treed (profile application).entries numbers.now s }
+fn is_tree(numbers: &[u32; limits::RECORD_NUMBERS]) -> bool
+    ensures { (s : List ℕ) → result ≡ is_tree 1 dictionary (draft_cells s (numbered_used numbers.now)) }
 {
     let used = numbers::used(numbers);
     let mut most: u32 = 1;
@@ -127,32 +124,32 @@ fn is_tree(application: Application, numbers: &[u32; layout::RECORD_NUMBERS]) ->
         if !is_in_tree(a.depth, most) {
             return false;
         }
-        most = next_depth(application, a);
+        most = next_depth(a);
         i += 1;
     }
     true
 }
 
 // A read group's length is that of its members with padding.
-fn has_size(application: Application, numbers: &[u32; layout::RECORD_NUMBERS], i: usize) -> bool
+fn has_size(numbers: &[u32; limits::RECORD_NUMBERS], i: usize) -> bool
     requires { i < most_avps }
-    ensures { HasSize (profile application).entries numbers.now i result }
+    ensures { HasSize numbers.now i result }
 {
     let a = numbers::get(numbers, i);
-    if dictionary::is_read_group(application, a.vendor, a.code) {
+    if dictionary::is_read_group(a.vendor, a.code) {
         let length = a.length as usize;
         return length == sizes::members_size(numbers, i + 1, a.depth as usize + 1);
     }
     true
 }
 
-fn has_sizes(application: Application, numbers: &[u32; layout::RECORD_NUMBERS]) -> bool
-    ensures { (s : List ℕ) → result ≡ is_sized (profile application).entries numbers.now s }
+fn has_sizes(numbers: &[u32; limits::RECORD_NUMBERS]) -> bool
+    ensures { (s : List ℕ) → result ≡ has_sizes dictionary (draft_cells s (numbered_used numbers.now)) }
 {
     let used = numbers::used(numbers);
     let mut i: usize = 0;
     while i < used {
-        if !has_size(application, numbers, i) {
+        if !has_size(numbers, i) {
             return false;
         }
         i += 1;
@@ -160,26 +157,11 @@ fn has_sizes(application: Application, numbers: &[u32; layout::RECORD_NUMBERS]) 
     true
 }
 
-// The application by which the groups of a draft are read (02, [12]).
-pub fn application_in(numbers: &[u32; layout::RECORD_NUMBERS]) -> Application
-    ensures { IsApplication numbers.now result }
-{
-    dictionary::application_of(numbers::head_of(numbers).application)
-}
-
-// The command code fits its three octets (02, [12]).
-fn code_fits(numbers: &[u32; layout::RECORD_NUMBERS]) -> bool
-    ensures { result ≡ code_fits numbers.now }
-{
-    numbers::head_of(numbers).command_code < limits::COMMAND_CODES
-}
-
 // The record that the numbers stand for, over the octets, is a draft that is not 7006.
-fn is_formed(numbers: &[u32; layout::RECORD_NUMBERS], s: &[u8]) -> bool
+fn is_formed(numbers: &[u32; limits::RECORD_NUMBERS], s: &[u8]) -> bool
     ensures { result ≡ is_well_formed (draft_of (numbered_record numbers.now) s.now) }
 {
     are_small(numbers);
-    let application = application_in(numbers);
     let count = numbers::count(numbers);
     if limits::MOST_AVPS < count {
         return false;
@@ -187,20 +169,17 @@ fn is_formed(numbers: &[u32; layout::RECORD_NUMBERS], s: &[u8]) -> bool
     if !are_blank(numbers, count) {
         return false;
     }
-    if !are_placed(application, numbers, s.len()) {
+    if !are_placed(numbers, s.len()) {
         return false;
     }
-    if !is_tree(application, numbers) {
+    if !is_tree(numbers) {
         return false;
     }
-    if !has_sizes(application, numbers) {
-        return false;
-    }
-    code_fits(numbers)
+    has_sizes(numbers)
 }
 
 // A draft that is not 7006: that of numbers and octets.
-pub fn is_well_formed(numbers: &[u32; layout::RECORD_NUMBERS], s: &[u8]) -> bool
+pub fn is_well_formed(numbers: &[u32; limits::RECORD_NUMBERS], s: &[u8]) -> bool
     ensures { result ≡ is_well_formed (numbered_draft numbers.now s.now) }
 {
     if numbers::flags_fit(numbers) {
@@ -210,7 +189,7 @@ pub fn is_well_formed(numbers: &[u32; layout::RECORD_NUMBERS], s: &[u8]) -> bool
 }
 
 // The octets of the command of a draft, where it is well formed: the header and the members at depth 1.
-pub fn command_size(numbers: &[u32; layout::RECORD_NUMBERS]) -> usize
+pub fn command_size(numbers: &[u32; limits::RECORD_NUMBERS]) -> usize
     ensures { IsCommandSize numbers.now result }
 {
     limits::HEADER_SIZE + sizes::members_size(numbers, 0, 1)

@@ -4,7 +4,7 @@ ghost use Rattle.rules.specs.Avp.{header_of};
 ghost use Rattle.rules.specs.Walk.{most_avps};
 ghost use Rattle.draft.specs.Promise.{IsFullSize, IsSizeAt, IsMembersSize};
 
-use rules::{Avp, layout, limits};
+use rules::{Avp, limits};
 
 // V is set exactly when the vendor is not 0.
 fn header_size(vendor: u32) -> usize
@@ -35,7 +35,7 @@ fn size_at(a: Avp, depth: usize) -> usize
 
 // The octets of the members at a depth: of the AVPs from a position on those at that depth, up to the first above it.
 pub(crate) fn members_size(
-    numbers: &[u32; layout::RECORD_NUMBERS],
+    numbers: &[u32; limits::RECORD_NUMBERS],
     from: usize,
     depth: usize,
 ) -> usize

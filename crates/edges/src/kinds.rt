@@ -1,8 +1,7 @@
-// 01, Dictionary: each code of a vendor up to 4,300 through the table of codes or the search. A line for each
+// 01, Dictionary: each code of a vendor up to 4,300 through the table of plain codes or the search. A line for each
 // code that has an entry, in their order: vendor and code, whether M must be set, and the form of the data.
 use crate::print;
-use dictionary::codes;
-use rules::Application;
+use dictionary::plain;
 
 fn form(entry: u8) {
     if dictionary::is_group(entry) {
@@ -17,7 +16,7 @@ fn form(entry: u8) {
     print::spaced(width);
 }
 
-fn kind(table: &[u8; codes::CODES], vendor: u32, code: u32) {
+fn kind(table: &[u8; plain::PLAIN_CODES], vendor: u32, code: u32) {
     let entry = dictionary::entry_by(table, vendor, code);
     if !dictionary::is_known(entry) {
         return;
@@ -30,7 +29,7 @@ fn kind(table: &[u8; codes::CODES], vendor: u32, code: u32) {
 }
 
 pub(crate) fn kinds_of(vendor: u32) {
-    let table = dictionary::table_of(Application::Nt);
+    let table = dictionary::plain_table();
     let mut code: u32 = 0;
     while code < 4301 {
         kind(&table, vendor, code);

@@ -60,7 +60,6 @@ fn records() {
     record::of_flags();
     record::of_count_300();
     record::of_policies();
-    record::of_nta();
     record::of_refusal();
 }
 

@@ -1,9 +1,9 @@
 // 01, The record and the writer: the record of S, the data of its positions, and the search, also for the nth AVP of a
-// name (02, [9]); and the record of a command of Nta (02, [12]).
+// name (02, [9]).
 ghost use Rattle.std.specs.Prelude.{◌≤◌};
 
 use crate::case::Start;
-use crate::{case, notation, octets, print};
+use crate::{case, octets, print};
 use rules::{Found, Reading, Record};
 
 // What the reader makes of the first `length` octets.
@@ -13,15 +13,13 @@ fn read(command: [u8; 16400], length: usize) -> Reading
     reader::read(&command[..length])
 }
 
-// R, P, E, T, the command code, the application, both identifiers and the count.
+// R, P, E, T, both identifiers and the count.
 fn record_line(record: Record) {
     print::word(b"record");
     print::bit(record.r);
     print::bit(record.p);
     print::bit(record.e);
     print::bit(record.t);
-    print::spaced(record.command_code);
-    print::spaced(record.application);
     print::spaced(record.hop_by_hop);
     print::spaced(record.end_to_end);
     print::spaced(record.count);
@@ -167,22 +165,6 @@ pub(crate) fn of_policies() {
     search_line(record, 10415, 4207, 1);
     record.count = 15;
     search_line(record, 10415, 4207, 1);
-}
-
-// 02 [12]: a reporting request of Nta, whose 4215 is at position 8, with a 4211 in it.
-pub(crate) fn of_nta() {
-    let mut out = [0u8; 16400];
-    case::put_command(
-        &mut out,
-        Start::BegunRequest,
-        b"VM4210:65 VM4215(VM4211:72)",
-    );
-    notation::put(&mut out, 5, b"#FFFFFFFFFFFFFE");
-    let reading = read(out, 144);
-    let record = reading.record;
-    record_line(record);
-    avp_line(record, 8);
-    avp_line(record, 9);
 }
 
 // 01, What comes back: every refusal carries the empty record. S is cut to 156 octets.

@@ -5,22 +5,20 @@ use Prim.Native.Nat.{ℕ, ◌+◌}
 use lib.ListN.{length, set}
 use lib.Seq.{sets}
 use Rattle.rules.specs.Octets.{octets}
-use Rattle.rules.specs.Header.{header_size}
-use Rattle.rules.specs.Dictionary.{Entry}
+use Rattle.rules.specs.Header.{header_size, application_nt, code_background_data_transfer}
 use Rattle.rules.specs.Meaning.{Meaning}
 use Rattle.rules.specs.Wire.{flags_octet, command_header, command_octets}
 use Rattle.rules.specs.Draft.{draft_of, draft_meaning}
 use Rattle.octets.proofs.Puts.{sets-append}
 use Rattle.numbers.specs.declared.Head.{Head}
 use Rattle.numbers.specs.Numbers.{numbered_record, numbered_head}
-use Rattle.encoding.specs.Promise.{numbered_dictionary, numbered_list, numbered_command}
-use Rattle.encoding.specs.Promise.{CanPutAll, IsStart, identified}
+use Rattle.encoding.specs.Promise.{numbered_list, numbered_command, IsStart, identified}
 
 -- seven parts, each where the ones before it end
 header_parts : (out : List ℕ) (m : Meaning) (n : ℕ)
     → sets out 0 (command_header m n)
-    ≡ sets (sets (sets (sets (set (sets (set out 0 1) 1 (octets 3 (header_size + n))) 4 (flags_octet m)) 5
-    (octets 3 m.code)) 8 (octets 4 m.application)) 12 (octets 4 m.hop_by_hop)) 16 (octets 4 m.end_to_end)
+    ≡ sets (sets (sets (sets (set (sets (set out 0 1) 1 (octets 3 (header_size + n))) 4 (flags_octet m)) 5 (octets 3 code_background_data_transfer)) 8
+    (octets 4 application_nt)) 12 (octets 4 m.hop_by_hop)) 16 (octets 4 m.end_to_end)
 unfolding command_header octets
 header_parts out m n = refl
 
@@ -30,32 +28,23 @@ length_command_header m n = refl
 
 -- application and identifiers, one after the other
 pub identifiers_put : (before numbers : List ℕ) (head : Head) → head ≡ numbered_head numbers
-    → (first : List ℕ) → first ≡ sets before 8 (octets 4 head.application)
+    → (first : List ℕ) → first ≡ sets before 8 (octets 4 application_nt)
     → (second : List ℕ) → second ≡ sets first 12 (octets 4 head.hop_by_hop)
     → (third : List ℕ) → third ≡ sets second 16 (octets 4 head.end_to_end)
     → third ≡ identified before (numbered_record numbers)
 identifiers_put before numbers head h first a second b third c = rw (c, b, a, h)
 
--- the AVPs can be put by the draft's own dictionary, behind a header that left the output's length as it was
-pub list_can : (numbers s out : List ℕ) → CanPutAll (numbered_dictionary numbers s) out numbers s
-    → (dict : List Entry) → dict ≡ numbered_dictionary numbers s
-    → (after : List ℕ) → length after ≡ length out → CanPutAll dict after numbers s
-list_can numbers s out can dict d after kept =
-    record { whole = rw d can.whole; room = rw (d, kept) can.room }
-
-pub command_put : (numbers s out : List ℕ) (size : ℕ)
-    → size ≡ header_size + length (numbered_list (numbered_dictionary numbers s) numbers s)
+pub command_put : (numbers s out : List ℕ) (size : ℕ) → size ≡ header_size + length (numbered_list numbers s)
     → (first : List ℕ) → IsStart out numbers size first
     → (second : List ℕ) → second ≡ identified first (numbered_record numbers)
-    → (dict : List Entry) → dict ≡ numbered_dictionary numbers s
-    → (third : List ℕ) → third ≡ sets second header_size (numbered_list dict numbers s)
+    → (third : List ℕ) → third ≡ sets second header_size (numbered_list numbers s)
     → third ≡ sets out 0 (numbered_command numbers s)
 unfolding command_octets
-command_put numbers s out size z first h second i dict d third e =
+command_put numbers s out size z first h second i third e =
     let m = draft_meaning (draft_of (numbered_record numbers) s) in
-    let xs = numbered_list (numbered_dictionary numbers s) numbers s in
+    let xs = numbered_list numbers s in
     let header = command_header m (length xs) in
     let twenty = length_command_header m (length xs) in
-    (rw d at e)
+    e
     ∙ ap (λ (l : List ℕ). sets l header_size xs) (i ∙ rw (h.is s, z) (sym (header_parts out m (length xs))))
     ∙ sym (sets-append out 0 header xs ∙ ap (λ (n : ℕ). sets (sets out 0 header) (0 + n) xs) twenty)

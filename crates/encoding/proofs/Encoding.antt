@@ -21,7 +21,7 @@ use Rattle.numbers.proofs.Draft.{draft_formed}
 use Rattle.draft.specs.Promise.{IsCommandSize}
 use Rattle.encoding.specs.declared.Encoded.{Encoded}
 use Rattle.encoding.specs.Encoding.{encoded_octets, IsEncoded, not_encoded}
-use Rattle.encoding.specs.Promise.{numbered_dictionary, numbered_list, numbered_command, CanPutCommand}
+use Rattle.encoding.specs.Promise.{numbered_list, numbered_command, CanPutCommand}
 use Rattle.encoding.proofs.Whole.{formed_whole}
 
 module _ (d : Draft) (room : ℕ) where
@@ -87,7 +87,7 @@ module _ (numbers s : List ℕ) (form : is_well_formed (numbered_draft numbers s
   formed : is_well_formed (draft_of (numbered_record numbers) s) ≡ true
   formed = sym (ap is_well_formed same) ∙ form
 
-  list_long : size ≡ header_size + length (numbered_list (numbered_dictionary numbers s) numbers s)
+  list_long : size ≡ header_size + length (numbered_list numbers s)
   list_long = omega (arith, is.is s, draft_long (draft_of (numbered_record numbers) s) formed)
 
   long : size ≡ length (numbered_command numbers s)

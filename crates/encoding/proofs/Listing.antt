@@ -8,73 +8,67 @@ use lib.Seq.{sets, length-sets}
 use Rattle.rules.specs.declared.Avp.{Avp}
 use Rattle.rules.specs.Header.{header_size}
 use Rattle.rules.specs.Walk.{most_avps}
-use Rattle.rules.specs.Dictionary.{Entry}
-use Rattle.rules.specs.Meaning.{cell_of}
 use Rattle.rules.specs.Wire.{avp_octets, list_octets}
 use Rattle.octets.proofs.Puts.{sets-append}
 use Rattle.numbers.specs.Numbers.{numbered_avp, numbered_count, numbered_used}
 use Rattle.numbers.proofs.Positions.{used_next, used_end}
-use Rattle.draft.specs.Drafts.{draft_cells}
+use Rattle.draft.specs.Drafts.{draft_cell, draft_cells}
 use Rattle.encoding.specs.Promise.{numbered_list, IsPut, IsWhole, AllWhole, CanPut, CanPutAll}
 
--- the octets that are left at a position
-abbrev list_left : List Entry → List ℕ → List ℕ → ℕ → List ℕ
-list_left dict numbers s i = list_octets (draft_cells dict s (drop i (numbered_used numbers)))
-
-module _ (dict : List Entry) (numbers s : List ℕ) (i : ℕ) where
-  list_next : i < min (numbered_count numbers) most_avps → list_left dict numbers s i
-      ≡ avp_octets (cell_of dict s (numbered_avp numbers i)) ++ list_left dict numbers s (i + 1)
+module _ (numbers s : List ℕ) (i : ℕ) where
+  list_next : i < min (numbered_count numbers) most_avps → list_octets (draft_cells s (drop i (numbered_used numbers)))
+      ≡ avp_octets (draft_cell s (numbered_avp numbers i)) ++ list_octets (draft_cells s (drop (i + 1) (numbered_used numbers)))
   unfolding list_octets
-  list_next h = ap (λ (xs : List Avp). list_octets (draft_cells dict s xs)) (used_next numbers i h)
+  list_next h = ap (λ (xs : List Avp). list_octets (draft_cells s xs)) (used_next numbers i h)
 
-  list_end : min (numbered_count numbers) most_avps ≤ i → list_left dict numbers s i ≡ []
+  list_end : min (numbered_count numbers) most_avps ≤ i → list_octets (draft_cells s (drop i (numbered_used numbers))) ≡ []
   unfolding list_octets
-  list_end h = ap (λ (xs : List Avp). list_octets (draft_cells dict s xs)) (used_end numbers i h)
+  list_end h = ap (λ (xs : List Avp). list_octets (draft_cells s xs)) (used_end numbers i h)
 
-  whole_next : i < min (numbered_count numbers) most_avps → AllWhole dict s (drop i (numbered_used numbers))
-      → IsWhole dict s (numbered_avp numbers i) × AllWhole dict s (drop (i + 1) (numbered_used numbers))
-  whole_next h z = subst (λ (xs : List Avp). AllWhole dict s xs) (used_next numbers i h) z
+  whole_next : i < min (numbered_count numbers) most_avps → AllWhole s (drop i (numbered_used numbers))
+      → IsWhole s (numbered_avp numbers i) × AllWhole s (drop (i + 1) (numbered_used numbers))
+  whole_next h z = subst (λ (xs : List Avp). AllWhole s xs) (used_next numbers i h) z
 
 -- what is left at a position, with the output as it stands and the next place in it
-pub record Left (dict : List Entry) (numbers s before out : List ℕ) (at i : ℕ) : Type 0 where
-  pub whole : AllWhole dict s (drop i (numbered_used numbers))
-  pub room : at + length (list_left dict numbers s i) ≤ length out
-  pub same : sets out at (list_left dict numbers s i) ≡ sets before header_size (numbered_list dict numbers s)
+pub record Left (numbers s before out : List ℕ) (at i : ℕ) : Type 0 where
+  pub whole : AllWhole s (drop i (numbered_used numbers))
+  pub room : at + length (list_octets (draft_cells s (drop i (numbered_used numbers)))) ≤ length out
+  pub same : sets out at (list_octets (draft_cells s (drop i (numbered_used numbers)))) ≡ sets before header_size (numbered_list numbers s)
 
-module _ (dict : List Entry) (numbers s before : List ℕ) where
-  pub left_all : CanPutAll dict before numbers s → Left dict numbers s before before header_size 0
+module _ (numbers s before : List ℕ) where
+  pub left_all : CanPutAll before numbers s → Left numbers s before before header_size 0
   left_all can = record { whole = can.whole; room = can.room; same = refl }
 
-  module _ (out : List ℕ) (at i : ℕ) (left : Left dict numbers s before out at i) where
-    pub left_end : min (numbered_count numbers) most_avps ≤ i → out ≡ sets before header_size (numbered_list dict numbers s)
-    left_end h = sym (ap (sets out at) (list_end dict numbers s i h)) ∙ left.same
+  module _ (out : List ℕ) (at i : ℕ) (left : Left numbers s before out at i) where
+    pub left_end : min (numbered_count numbers) most_avps ≤ i → out ≡ sets before header_size (numbered_list numbers s)
+    left_end h = sym (ap (sets out at) (list_end numbers s i h)) ∙ left.same
 
     module _ (h : i < min (numbered_count numbers) most_avps) (a : Avp) (is : a ≡ numbered_avp numbers i) where
-      next_is : list_left dict numbers s i
-          ≡ avp_octets (cell_of dict s a) ++ list_left dict numbers s (i + 1)
+      next_is : list_octets (draft_cells s (drop i (numbered_used numbers)))
+          ≡ avp_octets (draft_cell s a) ++ list_octets (draft_cells s (drop (i + 1) (numbered_used numbers)))
       next_is =
-          list_next dict numbers s i h
-          ∙ ap (λ (x : Avp). avp_octets (cell_of dict s x) ++ list_left dict numbers s (i + 1)) (sym is)
+          list_next numbers s i h
+          ∙ ap (λ (x : Avp). avp_octets (draft_cell s x) ++ list_octets (draft_cells s (drop (i + 1) (numbered_used numbers)))) (sym is)
 
-      many : length (list_left dict numbers s i)
-          ≡ length (avp_octets (cell_of dict s a)) + length (list_left dict numbers s (i + 1))
+      many : length (list_octets (draft_cells s (drop i (numbered_used numbers))))
+          ≡ length (avp_octets (draft_cell s a)) + length (list_octets (draft_cells s (drop (i + 1) (numbered_used numbers))))
       many =
           ap length next_is
-          ∙ length-append (avp_octets (cell_of dict s a)) (list_left dict numbers s (i + 1))
+          ∙ length-append (avp_octets (draft_cell s a)) (list_octets (draft_cells s (drop (i + 1) (numbered_used numbers))))
 
-      pub left_can : CanPut dict out at a s
+      pub left_can : CanPut out at a s
       left_can =
           let room = left.room in
-          record { whole = rw is (whole_next dict numbers s i h left.whole).0; room = omega (arith, many) }
+          record { whole = rw is (whole_next numbers s i h left.whole).0; room = omega (arith, many) }
 
-      pub left_next : (after : List ℕ) (next : ℕ) → IsPut out at (avp_octets (cell_of dict s a)) after next
-          → Left dict numbers s before after next (i + 1)
+      pub left_next : (after : List ℕ) (next : ℕ) → IsPut out at (avp_octets (draft_cell s a)) after next
+          → Left numbers s before after next (i + 1)
       left_next after next p =
-          let xs = avp_octets (cell_of dict s a) in
-          let rest = list_left dict numbers s (i + 1) in
+          let xs = avp_octets (draft_cell s a) in
+          let rest = list_octets (draft_cells s (drop (i + 1) (numbered_used numbers))) in
           let kept : length after ≡ length out = ap length p.is ∙ length-sets out at xs in
           record {
-            whole = (whole_next dict numbers s i h left.whole).1;
+            whole = (whole_next numbers s i h left.whole).1;
             room = omega (arith, many, kept, p.ends, left.room);
             same =
                 ap (λ (l : List ℕ). sets l next rest) p.is

@@ -9,14 +9,12 @@ use lib.ListN.{length, set, take, drop, replicate, length-append, length-drop, l
 use lib.Seq.{sets, length-take-le}
 use Rattle.rules.specs.declared.Avp.{Avp}
 use Rattle.rules.specs.Octets.{octets, padded}
-use Rattle.rules.specs.Dictionary.{Entry}
-use Rattle.rules.specs.Meaning.{cell_of}
 use Rattle.rules.specs.Wire.{vendor_octets, avp_flags, avp_header, avp_octets}
 use Rattle.rules.proofs.Octets.{padded_least}
 use Rattle.rules.proofs.demands.items.Sequences.{length-header}
 use Rattle.octets.proofs.Puts.{sets-append}
 use Rattle.output.proofs.Output.{octets_three, octets_four}
-use Rattle.draft.specs.Drafts.{is_group_avp, header_for}
+use Rattle.draft.specs.Drafts.{draft_cell, is_group_avp, header_for}
 use Rattle.encoding.specs.Promise.{IsPut, IsWhole}
 
 -- ---- an AVP's header
@@ -33,52 +31,50 @@ four_one_three out at xs f ys zs p q =
     ∙ ap (λ (n : ℕ). sets (sets (set (sets out at xs) (at + 4) f) (at + 5) ys) (at + 5 + n) zs) q
     ∙ ap (λ (n : ℕ). sets (sets (set (sets out at xs) (at + 4) f) (at + 5) ys) n zs) g
 
-module _ (dict : List Entry) (s : List ℕ) (a : Avp) where
+module _ (s : List ℕ) (a : Avp) where
   -- what the code knows of the parts, one after the other
   module _ (out : List ℕ) (at : ℕ) (first : List ℕ) (is-first : first ≡ sets out at (octets 4 a.code)) (flags : ℕ)
-      (is-flags : flags ≡ avp_flags (cell_of dict s a)) (header : ℕ) (is-header : header ≡ header_for a)
+      (is-flags : flags ≡ avp_flags (draft_cell s a)) (header : ℕ) (is-header : header ≡ header_for a)
       (second : List ℕ)
       (is-second : second ≡ sets (set first (at + 4) flags) (at + 5) (octets 3 (header + a.length))) where
     eight : (vendor : List ℕ)
-        → sets out at
-        (octets 4 a.code ++ (avp_flags (cell_of dict s a) ∷ (octets 3 (header_for a + a.length) ++ vendor)))
+        → sets out at (octets 4 a.code ++ (avp_flags (draft_cell s a) ∷ (octets 3 (header_for a + a.length) ++ vendor)))
         ≡ sets second (at + 8) vendor
     eight vendor =
         let size = header_for a + a.length in
-        four_one_three out at (octets 4 a.code) (avp_flags (cell_of dict s a)) (octets 3 size) vendor
+        four_one_three out at (octets 4 a.code) (avp_flags (draft_cell s a)) (octets 3 size) vendor
         (octets_four a.code) (octets_three size)
         ∙ rw (← is-first, ← is-flags, ← is-header, ← is-second)
 
-    pub header_without_vendor : a.vendor ≡ 0 → IsPut out at (avp_header (cell_of dict s a)) second (at + 8)
+    pub header_without_vendor : a.vendor ≡ 0 → IsPut out at (avp_header (draft_cell s a)) second (at + 8)
     unfolding avp_header
     header_without_vendor v =
         let size : header_for a ≡ 8 = rw (eq-eqb a.vendor 0 v) in
-        let none : vendor_octets (cell_of dict s a) ≡ [] = rw (eq-eqb a.vendor 0 v) in
+        let none : vendor_octets (draft_cell s a) ≡ [] = rw (eq-eqb a.vendor 0 v) in
         record {
-          is = sym (eight (vendor_octets (cell_of dict s a)) ∙ ap (λ (l : List ℕ). sets second (at + 8) l) none);
-          ends = ap (λ (n : ℕ). at + n) (sym (length-header (cell_of dict s a) ∙ size));
+          is = sym (eight (vendor_octets (draft_cell s a)) ∙ ap (λ (l : List ℕ). sets second (at + 8) l) none);
+          ends = ap (λ (n : ℕ). at + n) (sym (length-header (draft_cell s a) ∙ size));
         }
 
     pub header_with_vendor : (a.vendor ≡ 0 → ⊥)
-        → (third : List ℕ) → third ≡ sets second (at + 8) (octets 4 a.vendor)
-        → IsPut out at (avp_header (cell_of dict s a)) third (at + 12)
+        → (third : List ℕ) → third ≡ sets second (at + 8) (octets 4 a.vendor) → IsPut out at (avp_header (draft_cell s a)) third (at + 12)
     unfolding avp_header
     header_with_vendor v third e =
         let size : header_for a ≡ 12 = rw (ne_eqb a.vendor 0 v) in
-        let all : vendor_octets (cell_of dict s a) ≡ octets 4 a.vendor = rw (ne_eqb a.vendor 0 v) in
+        let all : vendor_octets (draft_cell s a) ≡ octets 4 a.vendor = rw (ne_eqb a.vendor 0 v) in
         record {
-          is = e ∙ sym (eight (vendor_octets (cell_of dict s a)) ∙ ap (λ (l : List ℕ). sets second (at + 8) l) all);
-          ends = ap (λ (n : ℕ). at + n) (sym (length-header (cell_of dict s a) ∙ size));
+          is = e ∙ sym (eight (vendor_octets (draft_cell s a)) ∙ ap (λ (l : List ℕ). sets second (at + 8) l) all);
+          ends = ap (λ (n : ℕ). at + n) (sym (length-header (draft_cell s a) ∙ size));
         }
 
 -- ---- an AVP, behind its header
 
 -- how many octets an AVP takes
-pub length-avp : (dict : List Entry) (s : List ℕ) (a : Avp) → length (avp_octets (cell_of dict s a))
-    ≡ header_for a + (length (cell_of dict s a).octets + (padded a.length - a.length))
+pub length-avp : (s : List ℕ) (a : Avp) → length (avp_octets (draft_cell s a))
+    ≡ header_for a + (length (draft_cell s a).octets + (padded a.length - a.length))
 unfolding avp_octets
-length-avp dict s a =
-    let c = cell_of dict s a in
+length-avp s a =
+    let c = draft_cell s a in
     let pad : List ℕ = replicate (padded a.length - a.length) 0 in
     let zeros : length pad ≡ padded a.length - a.length = length-replicate (padded a.length - a.length) 0 in
     length-append (avp_header c) (c.octets ++ pad)
@@ -86,17 +82,16 @@ length-avp dict s a =
     ∙ rw (length-header c, zeros)
 
 -- the room that the header takes
-pub room_header : (dict : List Entry) (s : List ℕ) (a : Avp) (at n : ℕ)
-    → at + length (avp_octets (cell_of dict s a)) ≤ n → at + header_for a ≤ n
-room_header dict s a at n h = omega (arith, length-avp dict s a)
+pub room_header : (s : List ℕ) (a : Avp) (at n : ℕ) → at + length (avp_octets (draft_cell s a)) ≤ n → at + header_for a ≤ n
+room_header s a at n h = omega (arith, length-avp s a)
 
-module _ (dict : List Entry) (s : List ℕ) (a : Avp) (whole : IsWhole dict s a) where
+module _ (s : List ℕ) (a : Avp) (whole : IsWhole s a) where
   -- a read group has no octets but its header
-  pub put_group : is_group_avp dict a ≡ true → (out : List ℕ) (at : ℕ) (after : List ℕ) (next : ℕ)
-      → IsPut out at (avp_header (cell_of dict s a)) after next → IsPut out at (avp_octets (cell_of dict s a)) after next
+  pub put_group : is_group_avp a ≡ true → (out : List ℕ) (at : ℕ) (after : List ℕ) (next : ℕ)
+      → IsPut out at (avp_header (draft_cell s a)) after next → IsPut out at (avp_octets (draft_cell s a)) after next
   unfolding avp_octets
   put_group g out at after next p =
-      let c = cell_of dict s a in
+      let c = draft_cell s a in
       let none : c.octets ≡ [] = rw g in
       let no-padding : padded a.length - a.length ≡ 0 = omega (arith, whole.group g) in
       let same : avp_header c ++ (c.octets ++ replicate (padded a.length - a.length) 0) ≡ avp_header c =
@@ -108,9 +103,9 @@ module _ (dict : List Entry) (s : List ℕ) (a : Avp) (whole : IsWhole dict s a)
         ends = p.ends ∙ ap (λ (l : List ℕ). at + length l) (sym same);
       }
 
-  module _ (part : is_group_avp dict a ≡ false) where
+  module _ (part : is_group_avp a ≡ false) where
     -- the data, as the code takes it from the octets
-    data_is : take (a.start + a.length - a.start) (drop a.start s) ≡ (cell_of dict s a).octets
+    data_is : take (a.start + a.length - a.start) (drop a.start s) ≡ (draft_cell s a).octets
     data_is =
         let e : a.start + a.length - a.start ≡ a.length = omega arith in
         rw (part, e)
@@ -122,21 +117,21 @@ module _ (dict : List Entry) (s : List ℕ) (a : Avp) (whole : IsWhole dict s a)
         ap (λ (n : ℕ). length (take n (drop a.start s))) e ∙ length-take-le a.length (drop a.start s) k
 
     -- the room that the header and the data with its padding take
-    pub room_part : (at n : ℕ) → at + length (avp_octets (cell_of dict s a)) ≤ n
+    pub room_part : (at n : ℕ) → at + length (avp_octets (draft_cell s a)) ≤ n
         → at + (header_for a + padded a.length) ≤ n
     room_part at n h =
-        let long : length (cell_of dict s a).octets ≡ a.length = sym (ap length data_is) ∙ data_long in
-        omega (arith, length-avp dict s a, padded_least a.length)
+        let long : length (draft_cell s a).octets ≡ a.length = sym (ap length data_is) ∙ data_long in
+        omega (arith, length-avp s a, padded_least a.length)
 
     pub put_part : (out : List ℕ) (at : ℕ) (first : List ℕ) (place : ℕ)
-        → IsPut out at (avp_header (cell_of dict s a)) first place
+        → IsPut out at (avp_header (draft_cell s a)) first place
         → (second : List ℕ) → second ≡ sets first place (take (a.start + a.length - a.start) (drop a.start s))
         → (size : ℕ) → size ≡ padded a.length
         → (third : List ℕ) → third ≡ sets second (place + a.length) (replicate (size - a.length) 0)
-        → IsPut out at (avp_octets (cell_of dict s a)) third (place + size)
+        → IsPut out at (avp_octets (draft_cell s a)) third (place + size)
     unfolding avp_octets
     put_part out at first place p second q size z third t =
-        let c = cell_of dict s a in
+        let c = draft_cell s a in
         let pad : List ℕ = replicate (padded a.length - a.length) 0 in
         let h = length (avp_header c) in
         let both = sets (sets out at (avp_header c)) (at + h) c.octets in
@@ -148,6 +143,5 @@ module _ (dict : List Entry) (s : List ℕ) (a : Avp) (whole : IsWhole dict s a)
           is =
               t
               ∙ rw (z, q, p.is, p.ends, data_is) (sym (here ∙ ap (λ (n : ℕ). sets both (at + h + n) pad) long));
-          ends =
-              omega (arith, p.ends, length-avp dict s a, length-header (cell_of dict s a), z, long, padded_least a.length);
+          ends = omega (arith, p.ends, length-avp s a, length-header (draft_cell s a), z, long, padded_least a.length);
         }

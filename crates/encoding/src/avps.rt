@@ -2,20 +2,17 @@
 ghost use Rattle.std.specs.Prelude.{◌≡◌, List, ℕ, ◌+◌, ◌≤◌, length};
 ghost use Rattle.std.proofs.lemmas.List.Edits.{sets};
 ghost use Rattle.rules.specs.Header.{header_size};
-ghost use Rattle.rules.specs.Dictionary.{Entry};
-ghost use Rattle.rules.specs.Profile.{profile};
-ghost use Rattle.rules.specs.Meaning.{cell_of};
 ghost use Rattle.rules.specs.Wire.{avp_header, avp_octets};
-ghost use Rattle.draft.specs.Drafts.{header_for};
+ghost use Rattle.draft.specs.Drafts.{draft_cell, header_for};
 ghost use Rattle.encoding.specs.Promise.{IsPut, CanPut, CanPutAll, numbered_list};
 
 use crate::flags;
-use rules::{Application, Avp, layout, limits};
+use rules::{Avp, limits};
 
 // An AVP's header, with the vendor where it is not 0.
 fn put_header(out: &mut [u8], at: usize, a: Avp) -> usize
     requires { at + header_for a ≤ length out.old }
-    ensures { (dict : List Entry) (s : List ℕ) → IsPut out.old at (avp_header (cell_of dict s a)) out.new result }
+    ensures { (s : List ℕ) → IsPut out.old at (avp_header (draft_cell s a)) out.new result }
 {
     output::put_number4(out, at, a.code);
     out[at + 4] = flags::avp_flags(a);
@@ -33,12 +30,12 @@ fn put_header(out: &mut [u8], at: usize, a: Avp) -> usize
 }
 
 // An AVP, with padding of zeros; of a read group its header, the members follow.
-fn put_avp(application: Application, out: &mut [u8], at: usize, a: Avp, s: &[u8]) -> usize
-    requires { CanPut (profile application).entries out.old at a s.now }
-    ensures { IsPut out.old at (avp_octets (cell_of (profile application).entries s.now a)) out.new result }
+fn put_avp(out: &mut [u8], at: usize, a: Avp, s: &[u8]) -> usize
+    requires { CanPut out.old at a s.now }
+    ensures { IsPut out.old at (avp_octets (draft_cell s.now a)) out.new result }
 {
     let data = put_header(out, at, a);
-    if dictionary::is_read_group(application, a.vendor, a.code) {
+    if dictionary::is_read_group(a.vendor, a.code) {
         return data;
     }
     let start = a.start as usize;
@@ -49,20 +46,15 @@ fn put_avp(application: Application, out: &mut [u8], at: usize, a: Avp, s: &[u8]
     data + padded
 }
 
-pub(crate) fn put_list(
-    application: Application,
-    out: &mut [u8],
-    numbers: &[u32; layout::RECORD_NUMBERS],
-    s: &[u8],
-)
-    requires { CanPutAll (profile application).entries out.old numbers.now s.now }
-    ensures { out.new ≡ sets out.old header_size (numbered_list (profile application).entries numbers.now s.now) }
+pub(crate) fn put_list(out: &mut [u8], numbers: &[u32; limits::RECORD_NUMBERS], s: &[u8])
+    requires { CanPutAll out.old numbers.now s.now }
+    ensures { out.new ≡ sets out.old header_size (numbered_list numbers.now s.now) }
 {
     let used = numbers::used(numbers);
     let mut at = limits::HEADER_SIZE;
     let mut i: usize = 0;
     while i < used {
-        at = put_avp(application, out, at, numbers::get(numbers, i), s);
+        at = put_avp(out, at, numbers::get(numbers, i), s);
         i += 1;
     }
 }

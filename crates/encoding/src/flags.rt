@@ -1,13 +1,12 @@
 // The flags octets of an AVP and of a command; reserved bits are 0.
 ghost use Rattle.std.specs.Prelude.{◌≡◌, List, ℕ};
-ghost use Rattle.rules.specs.Dictionary.{Entry};
-ghost use Rattle.rules.specs.Meaning.{cell_of};
 ghost use Rattle.rules.specs.Wire.{avp_flags, flags_octet};
 ghost use Rattle.rules.specs.Draft.{draft_of, draft_meaning};
 ghost use Rattle.numbers.specs.Numbers.{numbered_record};
+ghost use Rattle.draft.specs.Drafts.{draft_cell};
 ghost use Rattle.encoding.specs.Promise.{IsFlag};
 
-use rules::{Avp, flags, layout, limits};
+use rules::{Avp, flags, limits};
 
 fn flag(on: bool, value: u8) -> u8
     ensures { IsFlag on value result }
@@ -20,7 +19,7 @@ fn flag(on: bool, value: u8) -> u8
 
 // V, M, P; V is set exactly when the vendor is not 0.
 pub(crate) fn avp_flags(a: Avp) -> u8
-    ensures { (dict : List Entry) (s : List ℕ) → result ≡ avp_flags (cell_of dict s a) }
+    ensures { (s : List ℕ) → result ≡ avp_flags (draft_cell s a) }
 {
     flag(a.vendor != limits::NO_VENDOR, flags::VENDOR)
         + flag(a.m, flags::MANDATORY)
@@ -28,7 +27,7 @@ pub(crate) fn avp_flags(a: Avp) -> u8
 }
 
 // R, P, E, T.
-pub(crate) fn command_flags(numbers: &[u32; layout::RECORD_NUMBERS]) -> u8
+pub(crate) fn command_flags(numbers: &[u32; limits::RECORD_NUMBERS]) -> u8
     ensures { (s : List ℕ) → result ≡ flags_octet (draft_meaning (draft_of (numbered_record numbers.now) s)) }
 {
     let head = numbers::head_of(numbers);

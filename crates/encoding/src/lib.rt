@@ -6,7 +6,7 @@ ghost use Rattle.numbers.specs.Draft.{numbered_draft};
 ghost use Rattle.encoding.specs.Encoding.{not_encoded, IsEncoded};
 ghost use Rattle.encoding.specs.Promise.{CanPutCommand, numbered_command};
 
-use rules::{Outcome, Verdict, layout, limits};
+use rules::{Outcome, Verdict, limits};
 
 mod avps;
 mod flags;
@@ -36,18 +36,18 @@ fn refusal(number: u32) -> Encoded
 }
 
 // The command of a draft, of this size.
-fn put_command(out: &mut [u8], numbers: &[u32; layout::RECORD_NUMBERS], s: &[u8], size: usize)
+fn put_command(out: &mut [u8], numbers: &[u32; limits::RECORD_NUMBERS], s: &[u8], size: usize)
     requires { CanPutCommand out.old numbers.now s.now size }
     ensures { out.new ≡ sets out.old 0 (numbered_command numbers.now s.now) }
 {
     header::put_start(out, numbers, size);
     header::put_identifiers(out, numbers);
-    avps::put_list(draft::application_in(numbers), out, numbers, s);
+    avps::put_list(out, numbers, s);
 }
 
 // The draft of numbers and octets, encoded for an output of this room.
 pub fn encode(
-    numbers: &[u32; layout::RECORD_NUMBERS],
+    numbers: &[u32; limits::RECORD_NUMBERS],
     s: &[u8],
     room: usize,
     command: &mut [u8; limits::LONGEST_COMMAND],

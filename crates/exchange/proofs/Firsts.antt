@@ -12,10 +12,10 @@ use borrow.Author.Tests.{lt-ltb, le-ltb, ltb-true, ltb-false}
 use Rattle.rules.specs.declared.Found.{Found}
 use Rattle.rules.specs.declared.Found.TheVariants.{At, Nothing}
 use Rattle.rules.specs.Walk.{most_avps}
-use Rattle.rules.specs.Dictionary.{Entry, dictionary, added_nta}
+use Rattle.rules.specs.Dictionary.{Entry, dictionary}
 use Rattle.rules.proofs.Names.{both_hold}
 use Rattle.dictionary.proofs.Entries.{said_behind}
-use Rattle.dictionary.specs.Entries.{every_entry, number_where, entry_of, said_at, vendor_of, code_of}
+use Rattle.dictionary.specs.Entries.{number_where, entry_of, said_at, vendor_of, code_of}
 use Rattle.exchange.specs.Positions.{IsFoundAmong}
 use Rattle.exchange.specs.Firsts.{find_in}
 use Rattle.exchange.proofs.Searches.{found_at, found_nothing}
@@ -23,10 +23,10 @@ use Rattle.exchange.proofs.Searches.{found_at, found_nothing}
 -- ---- the entry that the name of an entry leads to
 
 abbrev entries : ℕ
-entries = 55
+entries = 48
 
 abbrev named_by : ℕ → ℕ
-named_by entry = entry_of every_entry (vendor_of every_entry entry) (code_of every_entry entry)
+named_by entry = entry_of dictionary (vendor_of dictionary entry) (code_of dictionary entry)
 
 -- a test of each number below n
 abbrev all_below : (ℕ → Bool) → ℕ → Bool
@@ -40,15 +40,15 @@ one_below test (suc n) i t h =
     ⊎_elim (λ e. rw e b.0) (λ l. one_below test n i b.1 l) (eq-or-lt_of_le (omega arith))
 
 own_name : (entry : ℕ) → entry < entries → named_by entry ≡ entry
-unfolding dictionary added_nta number_where vendor_of code_of
+unfolding dictionary number_where vendor_of code_of
 own_name entry h = eqb→eq (named_by entry) entry (one_below (λ e. eqb (named_by e) e) entries entry tt h)
 
 -- a number behind the last entry has the name of none
 no_name : (entry : ℕ) → entries ≤ entry → named_by entry ≡ entries
-unfolding dictionary added_nta number_where vendor_of code_of
+unfolding dictionary number_where vendor_of code_of
 no_name entry h =
-    let vendor = said_behind 0 (λ e. e.vendor) every_entry entry h in
-    let code = said_behind 0 (λ e. e.code) every_entry entry h in
+    let vendor = said_behind 0 (λ e. e.vendor) dictionary entry h in
+    let code = said_behind 0 (λ e. e.code) dictionary entry h in
     rw (vendor, code)
 
 -- ---- the first position of an entry
@@ -74,7 +74,7 @@ module _ (firsts : List ℕ) (size : length firsts ≡ entries) (count entry i :
   of_name = by_name (ltb entry entries) refl
 
   abbrev Answer : Found → Type 0
-  Answer r = IsFoundAmong (find_in firsts count (vendor_of every_entry entry) (code_of every_entry entry)) count r
+  Answer r = IsFoundAmong (find_in firsts count (vendor_of dictionary entry) (code_of dictionary entry)) count r
 
   pub first_found_lem : i < count → Answer (At i)
   unfolding find_in

@@ -3,8 +3,9 @@
 use Rattle.std.specs.Prelude.{ℕ, List, cond, ltb, get_or}
 use Rattle.rules.specs.declared.Found.{Found}
 use Rattle.rules.specs.declared.Found.TheVariants.{At, Nothing}
+use Rattle.rules.specs.Dictionary.{dictionary}
 use Rattle.rules.specs.Walk.{most_avps}
-use Rattle.dictionary.specs.Entries.{every_entry, entry_of}
+use Rattle.dictionary.specs.Entries.{entry_of}
 
 -- a position among so many AVPs, or none
 abbrev pub found_below : ℕ → ℕ → Found
@@ -12,4 +13,4 @@ found_below count i = cond (ltb i count) (At i) Nothing
 
 -- the first position of the entry of a vendor and code, where there is one
 unfoldable pub find_in : List ℕ → ℕ → ℕ → ℕ → Found
-find_in firsts count vendor code = found_below count (get_or firsts (entry_of every_entry vendor code) most_avps)
+find_in firsts count vendor code = found_below count (get_or firsts (entry_of dictionary vendor code) most_avps)

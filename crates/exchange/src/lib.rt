@@ -3,7 +3,7 @@
 // modules of their names.
 ghost use Rattle.std.specs.Prelude.{◌≡◌, ◌≤◌, min};
 ghost use Rattle.rules.specs.Verdict.{verdict_of, Answers};
-ghost use Rattle.rules.specs.Exchange.{by_command, windows_by, exchange_by};
+ghost use Rattle.rules.specs.Exchange.{by_command, exchange_by};
 ghost use Rattle.rules.specs.Walk.{most_avps};
 ghost use Rattle.walk_log.specs.Log.{avps_in};
 ghost use Rattle.exchange.specs.Firsts.{find_in};
@@ -37,19 +37,6 @@ fn by_command(
             answer::answer_outcome(log, firsts, count, end, number, policies)
         }
         ExchangeRules::WindowsAlone => Outcome::Pass,
-        ExchangeRules::NoRules => Outcome::Pass,
-    }
-}
-
-// What is said of the windows, where the rules ask for it.
-fn windows_by(rules: ExchangeRules, windows: Outcome) -> Outcome
-    ensures { result ≡ windows_by rules windows }
-{
-    match rules {
-        ExchangeRules::OfRequest => windows,
-        ExchangeRules::OfAnswer => windows,
-        ExchangeRules::WindowsAlone => windows,
-        ExchangeRules::NoRules => Outcome::Pass,
     }
 }
 
@@ -74,5 +61,5 @@ pub fn judge(
     let Outcome::Pass = outcome else {
         return outcome;
     };
-    windows_by(rules, windows)
+    windows
 }

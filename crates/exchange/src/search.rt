@@ -6,7 +6,8 @@ ghost use Rattle.rules.specs.Search.{avp_in};
 ghost use Rattle.rules.specs.Exchange.{present as presentBy, require as requireIn};
 ghost use Rattle.rules.specs.Walk.{most_avps};
 ghost use Rattle.walk_log.specs.Log.{avps_in};
-ghost use Rattle.dictionary.specs.Entries.{every_entry, vendor_of, code_of};
+ghost use Rattle.rules.specs.Dictionary.{dictionary};
+ghost use Rattle.dictionary.specs.Entries.{vendor_of, code_of};
 ghost use Rattle.exchange.specs.Positions.{Position, IsFoundAmong};
 ghost use Rattle.exchange.specs.Firsts.{find_in};
 
@@ -38,7 +39,7 @@ fn first_of(firsts: &[u16], entry: usize) -> usize
 
 // The first AVP of an entry's kind in a list.
 pub(crate) fn search(firsts: &[u16; kinds::ENTRIES], count: usize, entry: u8) -> Found
-    ensures { IsFoundAmong (find_in firsts.now count (vendor_of every_entry entry) (code_of every_entry entry)) count result }
+    ensures { IsFoundAmong (find_in firsts.now count (vendor_of dictionary entry) (code_of dictionary entry)) count result }
 {
     let i = first_of(firsts, entry as usize);
     if i < count {
@@ -59,7 +60,7 @@ pub(crate) fn present(found: Found, end: u32, vendor: u32, code: u32) -> Outcome
 
 // An AVP of an entry's kind that a list must have; `end` is the list's end.
 pub(crate) fn require(firsts: &[u16; kinds::ENTRIES], count: usize, end: u32, entry: u8) -> Outcome
-    ensures { result ≡ requireIn (find_in firsts.now count) end (vendor_of every_entry entry) (code_of every_entry entry) }
+    ensures { result ≡ requireIn (find_in firsts.now count) end (vendor_of dictionary entry) (code_of dictionary entry) }
 {
     let found = search(firsts, count, entry);
     present(

@@ -117,8 +117,8 @@ module _ (x : Begun) where
       goal_is : goal all ≡ y.size
       goal_is = goal_field all all_four right ∙ sym field_is
 
-      pub command_fits_lem : y.size ≤ length x.after
-      command_fits_lem = omega (arith, length-bounds y.size e, x.can.room, after_long)
+      pub command_fits : y.size ≤ length x.after
+      command_fits = omega (arith, length-bounds y.size e, x.can.room, after_long)
 
       pub begun_within : x.held + x.first ≤ y.size
       begun_within = omega (arith, length-bounds y.size e, x.filled.count, over, goal_is)
@@ -147,7 +147,7 @@ module _ (x : Begun) where
       taken_below = omega (arith, second_is, begun_within z.right)
 
       taken_fits : x.held + taken ≤ length x.buffer
-      taken_fits = omega (arith, taken_below, command_fits_lem z.right, after_long)
+      taken_fits = omega (arith, taken_below, command_fits z.right, after_long)
 
       stored : z.after ≡ sets x.buffer x.held (take taken x.fragment)
       stored =
@@ -166,7 +166,7 @@ module _ (x : Begun) where
       pub command_stored : y.size ≤ length z.after
       command_stored =
           let l = ap length stored ∙ length-sets x.buffer x.held (take taken x.fragment) in
-          omega (arith, l, command_fits_lem z.right, after_long)
+          omega (arith, l, command_fits z.right, after_long)
 
       module _ (reached : y.size ≤ x.held + taken) where
         whole : x.held + taken ≡ y.size

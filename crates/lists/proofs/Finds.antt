@@ -5,8 +5,8 @@ use mathlib.Core.Bool.{Bool, true, false, cond, ◌&&◌}
 use mathlib.Core.List.{List, [], ◌∷◌}
 use Prim.Native.Nat.{ℕ, suc, ◌+◌, ◌≤◌, ◌<◌}
 use native.Mathlib.Omega.{arith}
-use borrow.Author.Tests.{lt-ltb, le-ltb, ltb-true, eq-eqb, ne_eqb, eqb-true}
-use lib.Dec.{T, eqb, ltb}
+use borrow.Author.Tests.{lt-ltb, le-ltb, eq-eqb, ne_eqb, eqb-true}
+use lib.Dec.{T, eqb, ltb, ltb→lt}
 use lib.ListN.{length, get_or}
 use Rattle.rules.specs.declared.Avp.{Avp}
 use Rattle.rules.specs.declared.Found.{Found}
@@ -14,23 +14,20 @@ use Rattle.rules.specs.declared.Found.TheVariants.{At, Nothing}
 use Rattle.rules.specs.declared.Admission.{Admission}
 use Rattle.rules.specs.declared.Admission.TheVariants.{ByRow, NoRow}
 use Rattle.rules.specs.declared.Grammar.{Grammar}
+use Rattle.rules.specs.declared.Grammar.TheVariants.{Request, Answer, ErrorAnswer, VendorSpecificApplicationId, ExperimentalResult}
+use Rattle.rules.specs.declared.Grammar.TheVariants.{ProxyInfo, SupportedFeatures, TimeWindow, TransferPolicy}
 use Rattle.rules.specs.Rows.{Row, rows_of}
 use Rattle.rules.specs.Walk.{most_avps}
 use Rattle.rules.specs.Search.{is_at, first_from, position_of}
-use Rattle.rules.specs.Dictionary.{Entry, find, is_known, members_of}
-use Rattle.rules.specs.Profile.{Profile}
+use Rattle.rules.specs.Dictionary.{Entry, dictionary, find, is_known, members_of}
 use Rattle.rules.specs.RowChecks.{admission_from, admission}
 use Rattle.rules.proofs.Names.{both_hold}
 use Rattle.rules.proofs.Tests.{and_true}
-use Rattle.rules.proofs.Walk.{by_cases}
-use Rattle.rules.proofs.demands.items.Lists.{not_both}
 use Rattle.rules.proofs.Searches.{first_none, first_next}
-use Rattle.dictionary.specs.Entries.{number_where, entry_of, every_entry, no_entry, number_in, said_at, definition_at}
-use Rattle.dictionary.proofs.Entries.{found_is, known_below, said_behind}
-use Rattle.dictionary.proofs.Numbers.{find-append, definition_in}
+use Rattle.dictionary.specs.Entries.{number_where, entry_of, said_at, definition_at}
+use Rattle.dictionary.proofs.Entries.{found_is}
 use Rattle.exchange.specs.Firsts.{found_below, find_in}
 use Rattle.lists.specs.ByLog.{admission_at}
-use Rattle.lists.proofs.Fits.{IsKnown, all_known, Named, Fits, known_first}
 
 -- ---- two names with the same entry
 
@@ -112,6 +109,11 @@ module _ {A : Type 0} (without : A) (says : ℕ → ℕ → A) (vendor code : �
   said_by_name (e ∷ es) h =
       said_next e es (entry_of es vendor code) _ refl h (said_by_name es)
 
+-- each of these rows names an entry
+abbrev all_known : List Entry → List Row → Bool
+all_known es [] = true
+all_known es (r ∷ rs) = is_known (find es r.vendor r.code) && all_known es rs
+
 -- a name that no entry has has no row
 module _ (es : List Entry) (vendor code : ℕ) (unknown : is_known (find es vendor code) ≡ false) where
   no_row_next : (r : Row) (row later : Admission) (b : Bool) → (eqb vendor r.vendor && eqb code r.code) ≡ b
@@ -130,57 +132,31 @@ module _ (es : List Entry) (vendor code : ℕ) (unknown : is_known (find es vend
       let later = no_row rs (i + 1) both.1 in
       no_row_next r (ByRow i r.mark) (admission_from (i + 1) rs vendor code) _ refl both.0 later
 
--- ---- by the number of a name in an application
+-- computed: each row of each list names an entry of the dictionary
+rows_known : (g : Grammar) → T (all_known dictionary (rows_of g))
+unfolding rows_of dictionary find
+rows_known Request = tt
+rows_known Answer = tt
+rows_known ErrorAnswer = tt
+rows_known VendorSpecificApplicationId = tt
+rows_known ExperimentalResult = tt
+rows_known ProxyInfo = tt
+rows_known SupportedFeatures = tt
+rows_known TimeWindow = tt
+rows_known TransferPolicy = tt
 
-module _ (p : Profile) (fits : Fits p) where
-  known_all : (vendor code : ℕ) → is_known (find p.entries vendor code) ≡ true
-      → is_known (definition_at every_entry (entry_of every_entry vendor code)) ≡ true
-  known_all vendor code h =
-      let rest = fits.begins.rest in
-      ap is_known
-      (found_is every_entry vendor code
-      ∙ ap (λ (es : List Entry). find es vendor code) fits.begins.is
-      ∙ find-append p.entries rest vendor code)
-      ∙ known_first (find p.entries vendor code) (find rest vendor code) h
+-- the row by the entry of a name is the row that names it
+pub row_by_entry : (g : Grammar) (vendor code : ℕ)
+    → admission_at g (entry_of dictionary vendor code) ≡ admission g vendor code
+unfolding admission_at
+row_by_entry g vendor code =
+    said_by_name NoRow (admission g) vendor code dictionary
+    (λ h. no_row dictionary vendor code (rw (found_is dictionary vendor code) at h) (rows_of g) 0 (rows_known g))
 
-  -- the row by the number of a name is the row that names it, in a list whose rows the dictionary has
-  pub row_by_number : (g : Grammar) → Named p.entries g → (vendor code : ℕ)
-      → admission_at g (number_in p vendor code) ≡ admission g vendor code
-  unfolding number_in admission_at
-  row_by_number g named vendor code =
-      by_cases (is_known (find p.entries vendor code))
-      (λ h. rw h
-      (said_by_name NoRow (admission g) vendor code every_entry (λ none. not_both _ (known_all vendor code h) none)))
-      (λ h. rw h
-      (said_behind NoRow (λ e. admission g e.vendor e.code) every_entry no_entry (omega arith)
-      ∙ no_row p.entries vendor code h (rows_of g) 0 named))
-
-  -- and the members are those that the dictionary says of it
-  pub members_by_number : (vendor code : ℕ)
-      → members_of (definition_at every_entry (number_in p vendor code)) ≡ members_of (find p.entries vendor code)
-  members_by_number vendor code = ap members_of (definition_in p fits.begins vendor code)
-
-  -- a name of document 01 has an entry, whose number no other name has
-  module _ (vendor code : ℕ) (known : IsKnown vendor code) where
-    pub number_below : entry_of every_entry vendor code < length every_entry
-    number_below =
-        ltb-true _ _ (known_below every_entry (entry_of every_entry vendor code) ∙ known_all vendor code (fits.names vendor code known))
-
-    pub number_only : (vendor2 code2 : ℕ)
-        → eqb (number_in p vendor2 code2) (entry_of every_entry vendor code) ≡ (eqb vendor2 vendor && eqb code2 code)
-    unfolding number_in
-    number_only vendor2 code2 =
-        by_cases (is_known (find p.entries vendor2 code2))
-        (λ h. rw h (known_only every_entry vendor code number_below vendor2 code2))
-        (λ h.
-        let lacks = ne_eqb no_entry (entry_of every_entry vendor code) (λ e. omega (arith, number_below)) in
-        rw (h, lacks)
-        (by_cases (eqb vendor2 vendor && eqb code2 code)
-        (λ same.
-        let both = and_true (eqb vendor2 vendor) (eqb code2 code) same in
-        let own = rw (eqb-true vendor2 vendor both.0, eqb-true code2 code both.1) at h in
-        not_both _ (fits.names vendor code known) own)
-        (λ other. sym other)))
+-- the members by the entry of a name are those that the dictionary says of it
+pub members_by_entry : (vendor code : ℕ)
+    → members_of (definition_at dictionary (entry_of dictionary vendor code)) ≡ members_of (find dictionary vendor code)
+members_by_entry vendor code = ap members_of (found_is dictionary vendor code)
 
 -- ---- a search by first positions
 
@@ -219,18 +195,22 @@ first_within vendor code xs i floor depth few =
     among_within i (i + length xs) (first_from i floor depth xs vendor code) (omega arith) few
     (first_among vendor code xs i floor depth)
 
+-- a name that the dictionary has
+abbrev pub IsKnown : ℕ → ℕ → Type 0
+IsKnown vendor code = T (ltb (entry_of dictionary vendor code) (length dictionary))
+
 module _ (i count : ℕ) (few : count ≤ most_avps) where
   -- from the number, what was found
   found_below_lem : (found : Found) → Among i count found → found_below count (position_of found) ≡ found
   found_below_lem (At k) h = rw (lt-ltb k count h.1)
   found_below_lem Nothing h = rw (le-ltb most_avps count few)
 
-  -- a search by positions that are those of another search, for the names of document 01, finds the same
+  -- a search by positions that are those of another search, for the names of the dictionary, finds the same
   pub find_same : (found : ℕ → ℕ → Found) → ((vendor code : ℕ) → Among i count (found vendor code)) → (firsts : List ℕ)
-      → ((vendor code : ℕ) → IsKnown vendor code
-      → get_or firsts (entry_of every_entry vendor code) most_avps ≡ position_of (found vendor code))
+      → ((vendor code : ℕ) → entry_of dictionary vendor code < length dictionary
+      → get_or firsts (entry_of dictionary vendor code) most_avps ≡ position_of (found vendor code))
       → (vendor code : ℕ) → IsKnown vendor code → find_in firsts count vendor code ≡ found vendor code
   unfolding find_in
   find_same found among firsts h vendor code known =
-      ap (found_below count) (h vendor code known)
+      ap (found_below count) (h vendor code (ltb→lt (entry_of dictionary vendor code) (length dictionary) known))
       ∙ found_below_lem (found vendor code) (among vendor code)

@@ -16,9 +16,9 @@ use Rattle.rules.specs.declared.Found.TheVariants.{At, Nothing}
 use Rattle.rules.specs.Avp.{named}
 use Rattle.rules.specs.Walk.{most_avps}
 use Rattle.rules.specs.Search.{is_at, first_from, first, member, position_of}
-use Rattle.rules.specs.Profile.{Profile}
+use Rattle.rules.specs.Dictionary.{dictionary}
 use Rattle.rules.proofs.Searches.{first_above, first_later, first_none, first_next}
-use Rattle.dictionary.specs.Entries.{every_entry, number_in, entry_of}
+use Rattle.dictionary.specs.Entries.{entry_of}
 use Rattle.walk_log.specs.Log.{Logged}
 use Rattle.walk_log.specs.Families.{Forest, none, family, flat, Placed, IsForest}
 use Rattle.walk_log.proofs.Families.{Level}
@@ -27,8 +27,7 @@ use Rattle.exchange.proofs.Firsts.{within}
 use Rattle.lists.specs.Firsts.{no_firsts, noted, firsts_from}
 use Rattle.lists.specs.Exchanges.{firsts_at}
 use Rattle.lists.proofs.Noted.{length-noted, firsts_none, firsts_on}
-use Rattle.lists.proofs.Fits.{IsKnown, Fits}
-use Rattle.lists.proofs.Finds.{number_below, number_only, first_within}
+use Rattle.lists.proofs.Finds.{known_only, first_within}
 use Rattle.lists.proofs.Walked.{FamilyAt}
 
 -- ---- a search among AVPs with their members
@@ -73,13 +72,13 @@ first_end vendor code above i (a ∷ xs) e = first_above i (above + 1) (above + 
 
 -- the first position of a known entry, once a member at position i is noted that has this entry or another one
 noted_place : (firsts : List ℕ) (met entry i other : ℕ) (own : Bool) → eqb met entry ≡ own → entry < length firsts
-    → entry < length every_entry
+    → entry < length dictionary
     → get_or (noted firsts met i) entry other ≡ cond own (min (get_or firsts entry other) i) (get_or firsts entry other)
 unfolding noted
 noted_place firsts met entry i other true e h k =
     let p : met ≡ entry = eqb-true met entry e in
-    rw (p, lt-ltb entry (length every_entry) k, within firsts entry other 0 h) (get_or-set_same firsts entry _ other h)
-noted_place firsts met entry i other false e h k = by_test (ltb met (length every_entry))
+    rw (p, lt-ltb entry (length dictionary) k, within firsts entry other 0 h) (get_or-set_same firsts entry _ other h)
+noted_place firsts met entry i other false e h k = by_test (ltb met (length dictionary))
   where
     by_test : (b : Bool)
         → get_or (cond b (set firsts met (min (get_or firsts met 0) i)) firsts) entry other ≡ get_or firsts entry other
@@ -97,14 +96,11 @@ first_of : (own : Bool) (found : Found) (before i : ℕ) → i ≤ position_of f
 first_of true found before i h = omega arith
 first_of false found before i h = refl
 
--- of a name of document 01; `other` is what would stand where there is no place
-module _ (q : Profile) (fits : Fits q) (at : ℕ → Logged) (vendor code other : ℕ) (known : IsKnown vendor code) where
+-- of a known name; `other` is what would stand where there is no place
+module _ (at : ℕ → Logged) (vendor code other : ℕ) (known : entry_of dictionary vendor code < length dictionary) where
   -- the number of its entry
   abbrev own : ℕ
-  own = entry_of every_entry vendor code
-
-  own_below : own < length every_entry
-  own_below = number_below q fits vendor code known
+  own = entry_of dictionary vendor code
 
   -- a list before position `stop`, behind which a search finds nothing
   module _ (above floor : ℕ) (deep : floor ≤ above + 1) (xs : List Avp) (level : Level above xs) (stop : ℕ)
@@ -112,7 +108,7 @@ module _ (q : Profile) (fits : Fits q) (at : ℕ → Logged) (vendor code other 
     -- from position i on, in steps that are enough: the lesser of the first position so far and the position that a
     -- search from i on gives
     firsts_by : (f : Forest) (i n : ℕ) (firsts : List ℕ) → Placed (above + 1) f
-        → Stands (number_in q) at i (flat f ++ xs) → length (flat f) ≤ n → stop ≡ i + length (flat f)
+        → Stands (entry_of dictionary) at i (flat f ++ xs) → length (flat f) ≤ n → stop ≡ i + length (flat f)
         → own < length firsts → get_or firsts own other ≤ most_avps
         → get_or (firsts_from n at i stop firsts) own other
         ≡ min (get_or firsts own other) (position_of (first_from i floor (above + 1) (flat f ++ xs) vendor code))
@@ -121,15 +117,15 @@ module _ (q : Profile) (fits : Fits q) (at : ℕ → Logged) (vendor code other 
         rw (here, firsts_none at stop n stop firsts (omega arith), end) (omega arith)
     firsts_by (family a members rest) i zero firsts p s enough last place below = absurd (omega arith)
     firsts_by (family a members rest) i (suc n) firsts p s enough last place below =
-        let here = stands_family (number_in q) at a members rest above xs i p level s in
+        let here = stands_family (entry_of dictionary) at a members rest above xs i p level s in
         let both = length-append (flat members) (flat rest) in
         let whole = length-append (flat rest) xs in
         let next : ℕ = i + 1 + length (flat members) in
-        let met : ℕ = number_in q a.vendor a.code in
-        let same = number_only q fits vendor code known a.vendor a.code in
+        let met : ℕ = entry_of dictionary a.vendor a.code in
+        let same = known_only dictionary vendor code known a.vendor a.code in
         let before : ℕ = get_or firsts own other in
         let found : Found = first_from next floor (above + 1) (flat rest ++ xs) vendor code in
-        let now = noted_place firsts met own i other (named a vendor code) same place own_below in
+        let now = noted_place firsts met own i other (named a vendor code) same place known in
         let in_rest =
         firsts_by rest next n (noted firsts met i) p.2 here.behind (omega arith) (omega arith)
         (rw (length-noted firsts met i) place) (rw now (noted_few (named a vendor code) before i below)) in
@@ -143,14 +139,14 @@ module _ (q : Profile) (fits : Fits q) (at : ℕ → Logged) (vendor code other 
         (first_of (named a vendor code) found before i (omega (arith, behind)))
 
     -- where none was met before, the position that the search gives
-    list_positions : (f : Forest) (i : ℕ) → Placed (above + 1) f → Stands (number_in q) at i (flat f ++ xs)
+    list_positions : (f : Forest) (i : ℕ) → Placed (above + 1) f → Stands (entry_of dictionary) at i (flat f ++ xs)
         → stop ≡ i + length (flat f)
         → get_or (firsts_from (stop - i) at i stop no_firsts) own other
         ≡ position_of (first_from i floor (above + 1) (flat f ++ xs) vendor code)
     list_positions f i p s last =
         let both = length-append (flat f) xs in
-        let yet : get_or no_firsts own other ≡ most_avps = get_or-replicate (length every_entry) own most_avps other own_below in
-        let place : own < length no_firsts = rw (length-replicate (length every_entry) most_avps) own_below in
+        let yet : get_or no_firsts own other ≡ most_avps = get_or-replicate (length dictionary) own most_avps other known in
+        let place : own < length no_firsts = rw (length-replicate (length dictionary) most_avps) known in
         let by = firsts_by f i (stop - i) no_firsts p s (omega arith) last place (omega (arith, yet)) in
         let most = (first_within vendor code (flat f ++ xs) i floor (above + 1) (omega arith)).1 in
         (rw yet at by) ∙ (omega (arith, most))
@@ -158,7 +154,7 @@ module _ (q : Profile) (fits : Fits q) (at : ℕ → Logged) (vendor code other 
   -- ---- the log of a walk
 
   -- of the command's own list
-  pub first_positions : (xs : List Avp) → IsForest 1 xs → length xs ≤ most_avps → Stands (number_in q) at 0 xs
+  pub first_positions : (xs : List Avp) → IsForest 1 xs → length xs ≤ most_avps → Stands (entry_of dictionary) at 0 xs
       → get_or (firsts_from (length xs) at 0 (length xs) no_firsts) own other ≡ position_of (first xs vendor code)
   first_positions xs f few s =
       let e : xs ≡ flat f.forest ++ [] = f.is ∙ sym (append-nil (flat f.forest)) in
@@ -169,7 +165,7 @@ module _ (q : Profile) (fits : Fits q) (at : ℕ → Logged) (vendor code other 
 
   -- of the group at a position
   pub member_positions : (ys : List Avp) (a : Avp) (members rest : Forest) (above : ℕ) (xs : List Avp) (i : ℕ)
-      → FamilyAt (number_in q) at ys a members rest above xs i → length ys ≤ most_avps
+      → FamilyAt (entry_of dictionary) at ys a members rest above xs i → length ys ≤ most_avps
       → get_or (firsts_at at (length ys) i) own other ≡ position_of (member ys i (a.depth + 1) vendor code)
   member_positions ys a members rest above xs i h few =
       let p = h.placed in

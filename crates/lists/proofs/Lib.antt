@@ -4,8 +4,6 @@ pub mod Tables
 pub mod Counts
 pub mod Members
 pub mod Noted
--- what is needed of a profile
-pub mod Fits
 pub mod Finds
 pub mod Walked
 pub mod Firsts

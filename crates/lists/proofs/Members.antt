@@ -24,11 +24,11 @@ use Rattle.rules.specs.declared.Admission.TheVariants.{ByRow, NoRow}
 use Rattle.rules.specs.Verdict.{or_else}
 use Rattle.rules.specs.Header.{vendor_3gpp}
 use Rattle.rules.specs.Rows.{admits_others}
-use Rattle.rules.specs.Dictionary.{dictionary, added_nta, members_of}
+use Rattle.rules.specs.Dictionary.{dictionary, members_of}
 use Rattle.rules.specs.RowChecks.{counted, by_mark, by_admission, missing}
 use Rattle.rules.specs.Exchange.{exchange_by}
 use Rattle.rules.proofs.Outcomes.{refused_first, or_pass, or_assoc}
-use Rattle.dictionary.specs.Entries.{every_entry, number_where, entry_of, definition_at}
+use Rattle.dictionary.specs.Entries.{number_where, entry_of, definition_at}
 use Rattle.walk_log.specs.Log.{Logged}
 use Rattle.exchange.specs.Firsts.{find_in}
 use Rattle.lists.specs.ByLog.{admission_at, logged_members, members_by, list_by, group_at, first_fault, rows_by}
@@ -186,28 +186,28 @@ module _ (at : ℕ → Logged) (count : ℕ) where
 
 -- ---- AVPs that are no group
 
-module _ (at : ℕ → Logged) (count i : ℕ) (none : members_of (definition_at every_entry (at i).entry) ≡ NoMembers) where
+module _ (at : ℕ → Logged) (count i : ℕ) (none : members_of (definition_at dictionary (at i).entry) ≡ NoMembers) where
   -- have no entry of a group
-  no_entry_lem : (n : ℕ) (g : Grammar) → members_of (definition_at every_entry n) ≡ Under g → eqb (at i).entry n ≡ false
+  no_entry_lem : (n : ℕ) (g : Grammar) → members_of (definition_at dictionary n) ≡ Under g → eqb (at i).entry n ≡ false
   no_entry_lem n g group =
       ne_eqb (at i).entry n (λ same.
-      let denied = sym none ∙ ap (λ (k : ℕ). members_of (definition_at every_entry k)) same ∙ group in
+      let denied = sym none ∙ ap (λ (k : ℕ). members_of (definition_at dictionary k)) same ∙ group in
       let z : ◌≡◌ {A = ℕ} 0 1 = cc in absurd (omega arith))
 
   pub no_rows : Pass ≡ group_at at count i
   no_rows = rw none
 
   pub not_policy : is_policy (at i) ≡ false
-  unfolding dictionary added_nta number_where definition_at
-  not_policy = rw (no_entry_lem (entry_of every_entry vendor_3gpp 4207) TransferPolicy refl)
+  unfolding dictionary number_where definition_at
+  not_policy = rw (no_entry_lem (entry_of dictionary vendor_3gpp 4207) TransferPolicy refl)
 
   pub no_policy : Pass ≡ policy_logged at count i
   unfolding policy_logged
   no_policy = rw not_policy
 
   pub no_window : (xs : List Avp) (s : List ℕ) → Pass ≡ window_logged at xs s count i
-  unfolding dictionary added_nta number_where definition_at window_logged
-  no_window xs s = rw (no_entry_lem (entry_of every_entry vendor_3gpp 4204) TimeWindow refl)
+  unfolding dictionary number_where definition_at window_logged
+  no_window xs s = rw (no_entry_lem (entry_of dictionary vendor_3gpp 4204) TimeWindow refl)
 
 -- ---- the command's list, then the groups, then the exchange rules
 

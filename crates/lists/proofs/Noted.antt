@@ -7,26 +7,25 @@ use native.Mathlib.Omega.{arith}
 use borrow.Author.Tests.{lt-ltb, le-ltb, ltb-true}
 use lib.Dec.{ltb}
 use lib.ListN.{length, get_or, set, length-set}
-use Rattle.rules.specs.Dictionary.{dictionary, added_nta}
-use Rattle.dictionary.specs.Entries.{every_entry}
+use Rattle.rules.specs.Dictionary.{dictionary}
 use Rattle.walk_log.specs.Log.{Logged}
 use Rattle.lists.specs.Firsts.{noted, firsts_from}
 
 -- ---- one member
 
 module _ (firsts : List ℕ) (entry i : ℕ) where
-  pub noted_none : 55 ≤ entry → noted firsts entry i ≡ firsts
-  unfolding noted dictionary added_nta
-  noted_none h = rw (le-ltb entry 55 h)
+  pub noted_none : 48 ≤ entry → noted firsts entry i ≡ firsts
+  unfolding noted dictionary
+  noted_none h = rw (le-ltb entry 48 h)
 
-  pub noted_at : entry < 55 → noted firsts entry i ≡ set firsts entry (min (get_or firsts entry 0) i)
-  unfolding noted dictionary added_nta
-  noted_at h = rw (lt-ltb entry 55 h)
+  pub noted_at : entry < 48 → noted firsts entry i ≡ set firsts entry (min (get_or firsts entry 0) i)
+  unfolding noted dictionary
+  noted_at h = rw (lt-ltb entry 48 h)
 
 -- as many places as before
 pub length-noted : (firsts : List ℕ) (entry i : ℕ) → length (noted firsts entry i) ≡ length firsts
 unfolding noted
-length-noted firsts entry i = by_test (ltb entry (length every_entry))
+length-noted firsts entry i = by_test (ltb entry (length dictionary))
   where
     by_test : (b : Bool) → length (cond b (set firsts entry (min (get_or firsts entry 0) i)) firsts) ≡ length firsts
     by_test true = length-set firsts entry _

@@ -1,14 +1,14 @@
 -- Laws of the tables of rows: the rule of each, by one equation that is computed over all places of all lists; what a
 -- number says; and the search for the first missing row.
 use mathlib.Core.Path.{◌≡◌, refl, sym, ap, ◌∙◌}
-use mathlib.Core.List.{List, [], ◌∷◌}
+use mathlib.Core.List.{List, [], ◌∷◌, map}
 use mathlib.Core.Bool.{Bool, true, false, cond, ◌&&◌}
 use mathlib.Core.Logic.{⊎_elim}
 use Prim.Native.Nat.{ℕ, zero, suc, ◌+◌, ◌-◌, ◌*◌, ◌/◌, ◌%◌, ◌≤◌, ◌<◌}
 use native.Mathlib.Nat.{add-zero, eq-or-lt_of_le}
 use native.Mathlib.Omega.{arith}
-use borrow.Author.Tests.{leb-false, le-leb, lt-leb}
-use lib.Dec.{eqb, leb}
+use borrow.Author.Tests.{leb-false, eq-eqb, ne_eqb}
+use lib.Dec.{eqb, leb, ltb}
 use lib.ListN.{length, get_or}
 use Rattle.rules.specs.declared.Grammar.{Grammar}
 use Rattle.rules.specs.declared.Mark.{Mark}
@@ -19,13 +19,13 @@ use Rattle.rules.specs.declared.Outcome.{Outcome}
 use Rattle.rules.specs.declared.Outcome.TheVariants.{Pass}
 use Rattle.rules.specs.Verdict.{refused, refuse_if}
 use Rattle.rules.specs.Rows.{Row, rows_of}
-use Rattle.rules.specs.Dictionary.{Entry}
-use Rattle.rules.specs.RowChecks.{is_required, missing_from, missing}
+use Rattle.rules.specs.Dictionary.{Entry, dictionary}
+use Rattle.rules.specs.RowChecks.{missing_from, missing}
 use Rattle.rules.proofs.Names.{Absent}
 use Rattle.dictionary.proofs.Entries.{said_behind}
-use Rattle.dictionary.specs.Entries.{every_entry, said_at, vendor_of, code_of}
+use Rattle.dictionary.specs.Entries.{said_at, vendor_of, code_of}
 use Rattle.lists.specs.ByLog.{admission_at}
-use Rattle.lists.specs.Tables.{lists, list_at, ListAt, entry_places, requirement_places, row_places, for_member, mark_at, admission_in, AdmissionTable, Admits, Requirement, required_if, requirements_of, requirement_row, requirement_in, requirements_from, RequirementTable}
+use Rattle.lists.specs.Tables.{lists, list_at, ListAt, entry_places, row_places, for_member, mark_at, admission_in, AdmissionTable, Admits, Requirement, requirement_of, free_row, requirement_in, end_of_rows, requirements_from, RowTable, missing_among}
 
 -- ---- what holds at each number below n, as one equation
 
@@ -61,17 +61,17 @@ admission_rule table e = record {
       same_below entry_places (said_by table n) (wanted n) list entry below ∙ ap (λ (g : Grammar). for_member (admission_at g entry)) at.is;
 }
 
--- what a table asks for in the n-th list, and what it is to ask for
-abbrev pub asked_by : List ℕ → ℕ → List Requirement
-asked_by table n = requirements_from requirement_places table (n * requirement_places)
+abbrev pub requirements_in : List ℕ → ℕ → List Requirement
+requirements_in table n = requirements_from row_places table (n * row_places)
 
-abbrev pub asked : ℕ → List Requirement
-asked n = requirements_of 0 (rows_of (list_at n))
+abbrev pub requirements_at : ℕ → List Requirement
+requirements_at n = map requirement_of (rows_of (list_at n))
 
-pub requirement_rule : (table : List ℕ) → values_below (length lists) (asked_by table) ≡ values_below (length lists) asked → RequirementTable table
-requirement_rule table e = record {
+pub row_rule : (table : List ℕ) → values_below (length lists) (requirements_in table) ≡ values_below (length lists) requirements_at → RowTable table
+row_rule table e = record {
   rule = λ g n at.
-      same_below (length lists) (asked_by table) asked e n at.below ∙ ap (λ (g : Grammar). requirements_of 0 (rows_of g)) at.is;
+      same_below (length lists) (requirements_in table) requirements_at e n at.below
+      ∙ ap (λ (g : Grammar). map requirement_of (rows_of g)) at.is;
 }
 
 -- ---- what a number says
@@ -103,69 +103,54 @@ admits_by table is g n entry r at h e = record {
 pub admits_none : (g : Grammar) (entry : ℕ) → entry_places ≤ entry → Admits g entry NoRow
 unfolding admission_at
 admits_none g entry h = record {
-  is = ap for_member (sym (said_behind NoRow _ every_entry entry h));
+  is = ap for_member (sym (said_behind NoRow _ dictionary entry h));
   below = λ row mark p. let z : ◌≡◌ {A = ℕ} 0 1 = cc in absurd (omega arith);
 }
 
 -- ---- the first missing row
 
--- the first of the required rows that was not met
-unfoldable pub missing_among : List Requirement → List ℕ → ℕ → Outcome
-missing_among [] counts end = Pass
-missing_among (q ∷ qs) counts end =
-    refuse_if (eqb (get_or counts q.row 0) 0) (refused 5005 end q.vendor q.code) (missing_among qs counts end)
-
--- with one more in front, where its row must be met
-missing_if : (must : Bool) (q : Requirement) (qs : List Requirement) (counts : List ℕ) (end : ℕ)
-    → missing_among (required_if must q qs) counts end
-    ≡ refuse_if (must && eqb (get_or counts q.row 0) 0) (refused 5005 end q.vendor q.code) (missing_among qs counts end)
-unfolding missing_among
-missing_if true q qs counts end = refl
-missing_if false q qs counts end = refl
-
--- the first missing one of the required rows is that of all rows
-missing_among_lem : (i : ℕ) (rows : List Row) (counts : List ℕ) (end : ℕ)
-    → missing_among (requirements_of i rows) counts end ≡ missing_from i rows counts end
-unfolding missing_among requirements_of missing_from
-missing_among_lem i [] counts end = refl
-missing_among_lem i (r ∷ rs) counts end =
-    missing_if (is_required r.mark) (record { row = i; vendor = r.vendor; code = r.code }) (requirements_of (i + 1) rs) counts end
-    ∙ rw (missing_among_lem (i + 1) rs counts end)
+-- what is required of rows is what they ask for
+among_rows : (i : ℕ) (rows : List Row) (counts : List ℕ) (end : ℕ)
+    → missing_among i (map requirement_of rows) counts end ≡ missing_from i rows counts end
+unfolding missing_among missing_from
+among_rows i [] counts end = refl
+among_rows i (r ∷ rs) counts end = rw (among_rows (i + 1) rs counts end)
 
 module _ (table counts : List ℕ) (end place : ℕ) where
-  -- among the requirements that stand from a place on, the k-th and those behind it
+  -- among the rows that stand from a place on, the k-th and those behind it
   abbrev pub missing_in : ℕ → Outcome
-  missing_in k = missing_among (requirements_from (requirement_places - k) table (place + k)) counts end
+  missing_in k = missing_among k (requirements_from (row_places - k) table (place + k)) counts end
 
   abbrev number : ℕ → ℕ
   number k = get_or table (place + k) 0
 
-  requirements_next : (k : ℕ) → k < requirement_places → requirements_from (requirement_places - k) table (place + k)
-      ≡ cond (leb row_places (number k / requirement_row)) []
-      (requirement_in (number k) ∷ requirements_from (requirement_places - (k + 1)) table (place + (k + 1)))
+  rows_next : (k : ℕ) → k < row_places → requirements_from (row_places - k) table (place + k)
+      ≡ cond (eqb (number k) end_of_rows) []
+      (requirement_in (number k) ∷ requirements_from (row_places - (k + 1)) table (place + (k + 1)))
   unfolding requirements_from
-  requirements_next k h =
-      let e : requirement_places - k ≡ suc (requirement_places - (k + 1)) = omega arith in
+  rows_next k h =
+      let e : row_places - k ≡ suc (row_places - (k + 1)) = omega arith in
       let p : place + (k + 1) ≡ place + k + 1 = omega arith in
       rw (e, p)
 
-  pub missing_end : (k row : ℕ) → k < requirement_places → row ≡ number k / requirement_row → row_places ≤ row → missing_in k ≡ Pass
+  pub missing_end : (k : ℕ) → k < row_places → number k ≡ end_of_rows → missing_in k ≡ Pass
   unfolding missing_among
-  missing_end k row h p e = rw (requirements_next k h, ← p, le-leb row_places row e)
+  missing_end k h e = rw (rows_next k h, eq-eqb (number k) end_of_rows e)
 
-  -- `here` says that the row at the place was not met
-  pub missing_next : (k row : ℕ) → k < requirement_places → row ≡ number k / requirement_row → row < row_places → (here : Bool) → eqb (get_or counts row 0) 0 ≡ here
+  -- `here` says that the row at the place must be met, and was not
+  pub missing_next : (k : ℕ) → k < row_places → (number k ≡ end_of_rows → ⊥) → (here : Bool)
+      → (ltb (number k) free_row && eqb (get_or counts k 0) 0) ≡ here
       → missing_in k
-      ≡ refuse_if here (refused 5005 end (vendor_of every_entry (number k % requirement_row)) (code_of every_entry (number k % requirement_row))) (missing_in (k + 1))
+      ≡ refuse_if here (refused 5005 end (vendor_of dictionary (number k % 64)) (code_of dictionary (number k % 64))) (missing_in (k + 1))
   unfolding missing_among requirement_in
-  missing_next k row h p l here e = rw (requirements_next k h, ← p, lt-leb row_places row l, e)
+  missing_next k h d here e = rw (rows_next k h, ne_eqb (number k) end_of_rows d, e)
 
-  pub missing_past : (k : ℕ) → requirement_places ≤ k → missing_in k ≡ Pass
+  pub missing_past : (k : ℕ) → row_places ≤ k → missing_in k ≡ Pass
   unfolding missing_among requirements_from
   missing_past k h =
-      let e : requirement_places - k ≡ 0 = omega arith in
+      let e : row_places - k ≡ 0 = omega arith in
       rw e
 
   -- from a list's own place on
-  pub missing_first : RequirementTable table → (g : Grammar) (n : ℕ) → ListAt g n → place ≡ n * requirement_places → missing_in 0 ≡ missing g counts end
-  missing_first is g n at e = rw (add-zero place, e, is.rule g n at) (missing_among_lem 0 (rows_of g) counts end)
+  pub missing_first : RowTable table → (g : Grammar) (n : ℕ) → ListAt g n → place ≡ n * row_places → missing_in 0 ≡ missing g counts end
+  missing_first is g n at e = rw (add-zero place, e, is.rule g n at) (among_rows 0 (rows_of g) counts end)

@@ -18,19 +18,17 @@ use Rattle.rules.specs.declared.Outcome.TheVariants.{Pass}
 use Rattle.rules.specs.Verdict.{or_else}
 use Rattle.rules.specs.Avp.{end_of}
 use Rattle.rules.specs.Search.{blank, avp_in}
-use Rattle.rules.specs.Dictionary.{Entry, defined, members_of}
-use Rattle.rules.specs.Profile.{Profile}
+use Rattle.rules.specs.Dictionary.{dictionary, find, defined, members_of}
 use Rattle.rules.specs.RowChecks.{admission, none_met, counted, member_outcome, members_outcome, members_at, list_outcome}
 use Rattle.rules.specs.RowChecks.{group_outcome, groups_outcome, rows_outcome}
-use Rattle.dictionary.specs.Entries.{every_entry, number_in, definition_at}
+use Rattle.dictionary.specs.Entries.{entry_of, definition_at}
 use Rattle.walk_log.specs.Log.{Logged}
 use Rattle.walk_log.specs.Families.{logged_from, Forest, none, family, flat, Placed, IsForest}
 use Rattle.walk_log.proofs.Families.{Level}
 use Rattle.walk_log.proofs.Forests.{level_rest, Stands, stands_at, StandsFamily, stands_family}
 use Rattle.lists.proofs.Members.{logged_members_none, logged_members_next}
 use Rattle.lists.specs.ByLog.{admission_at, logged_members, members_by, list_by, group_by, group_at, first_fault, rows_by}
-use Rattle.lists.proofs.Fits.{Named, Fits}
-use Rattle.lists.proofs.Finds.{row_by_number, members_by_number}
+use Rattle.lists.proofs.Finds.{row_by_entry, members_by_entry}
 
 -- ---- the members of a list, all of which are deeper than `above`
 
@@ -145,88 +143,86 @@ module _ (entry : ℕ → ℕ → ℕ) (at : ℕ → Logged) (ys : List Avp) whe
 
 -- ---- where the entry of a name has its row and its members
 
-module _ (q : Profile) (fits : Fits q) (at : ℕ → Logged) where
-  abbrev entry : ℕ → ℕ → ℕ
-  entry = number_in q
-
-  abbrev dict : List Entry
-  dict = q.entries
-
+module _ (entry : ℕ → ℕ → ℕ)
+    (row_of : (g : Grammar) (vendor code : ℕ) → admission_at g (entry vendor code) ≡ admission g vendor code)
+    (members-of : (vendor code : ℕ)
+    → members_of (definition_at dictionary (entry vendor code)) ≡ members_of (find dictionary vendor code))
+    (at : ℕ → Logged) where
   -- the members of a list that stands from position i on, before position `stop`, in steps that are enough
   members_by_lem : (f : Forest) (above : ℕ) (xs : List Avp) (i n stop : ℕ) → Placed (above + 1) f → Level above xs
       → Stands entry at i (flat f ++ xs) → length (flat f) ≤ n → stop ≡ i + length (flat f)
-      → (g : Grammar) → Named dict g → (end : ℕ) (counts : List ℕ) (first : Bool)
+      → (g : Grammar) (end : ℕ) (counts : List ℕ) (first : Bool)
       → members_by g end counts first (logged_members n at i stop)
       ≡ members_outcome g end counts first (members_at (above + 1) (flat f ++ xs))
   unfolding members_by members_outcome member_outcome
-  members_by_lem none above xs i n stop p e s enough last g named end counts first =
+  members_by_lem none above xs i n stop p e s enough last g end counts first =
       rw (logged_members_none at stop n i (omega arith), members_end above xs e)
-  members_by_lem (family a members rest) above xs i zero stop p e s enough last g named end counts first = absurd (omega arith)
-  members_by_lem (family a members rest) above xs i (suc n) stop p e s enough last g named end counts first =
+  members_by_lem (family a members rest) above xs i zero stop p e s enough last g end counts first = absurd (omega arith)
+  members_by_lem (family a members rest) above xs i (suc n) stop p e s enough last g end counts first =
       let here = stands_family entry at a members rest above xs i p e s in
       let both = length-append (flat members) (flat rest) in
       let more : List ℕ = counted counts (admission g a.vendor a.code) in
       let next : ℕ = i + 1 + length (flat members) in
       let in_rest =
-      members_by_lem rest above xs next n stop p.2 e here.behind (omega arith) (omega arith) g named end more false in
+      members_by_lem rest above xs next n stop p.2 e here.behind (omega arith) (omega arith) g end more false in
       rw (
         logged_members_next at stop n i _ (omega arith) here.first,
         members_family a members rest (above + 1) xs p,
-        row_by_number q fits g named a.vendor a.code,
+        row_of g a.vendor a.code,
         in_rest,
       )
 
   -- the list
   list_by_lem : (f : Forest) (above : ℕ) (xs : List Avp) (i stop : ℕ) → Placed (above + 1) f → Level above xs
-      → Stands entry at i (flat f ++ xs) → stop ≡ i + length (flat f) → (g : Grammar) → Named dict g → (end : ℕ)
+      → Stands entry at i (flat f ++ xs) → stop ≡ i + length (flat f) → (g : Grammar) (end : ℕ)
       → list_by at g end i stop ≡ list_outcome g (above + 1) end (flat f ++ xs)
-  list_by_lem f above xs i stop p e s last g named end =
-      members_by_lem f above xs i (stop - i) stop p e s (omega arith) last g named end none_met true
+  list_by_lem f above xs i stop p e s last g end =
+      members_by_lem f above xs i (stop - i) stop p e s (omega arith) last g end none_met true
 
   -- an AVP, by what is said of its members
   group_by_lem : (ys : List Avp) (a : Avp) (members rest : Forest) (above : ℕ) (xs : List Avp) (i : ℕ)
-      → FamilyAt entry at ys a members rest above xs i → (m : Members) → ((g : Grammar) → m ≡ Under g → Named dict g)
+      → FamilyAt entry at ys a members rest above xs i → (m : Members)
       → group_by at (length ys) i m ≡ group_outcome m a (flat members ++ (flat rest ++ xs))
-  group_by_lem ys a members rest above xs i h (Under g) named =
+  group_by_lem ys a members rest above xs i h (Under g) =
       let p = h.placed in
       let few = length-append (flat members) (flat rest ++ xs) in
       let last : min (i + 1 + length (flat members)) (length ys) ≡ i + 1 + length (flat members) =
       omega (arith, h.all) in
       rw (h.stands.first, p.0)
       (list_by_lem members (above + 1) (flat rest ++ xs) (i + 1) (min (i + 1 + length (flat members)) (length ys)) p.1
-      (level_rest rest above xs p.2 h.level) h.stands.inside last g (named g refl) (end_of a))
-  group_by_lem ys a members rest above xs i h NoMembers named = refl
+      (level_rest rest above xs p.2 h.level) h.stands.inside last g (end_of a))
+  group_by_lem ys a members rest above xs i h NoMembers = refl
 
   -- the groups, each at its position
   groups_by : (ys : List Avp) → IsForest 1 ys → Stands entry at 0 ys
-      → first_fault (group_at at (length ys)) (length ys) 0 ≡ groups_outcome dict ys
+      → first_fault (group_at at (length ys)) (length ys) 0 ≡ groups_outcome dictionary ys
   unfolding groups_outcome
   groups_by ys =
-      each_of entry at ys (group_at at (length ys)) (λ i a xs. group_outcome (members_of (defined dict a)) a xs)
-      (λ i xs. groups_outcome dict xs) (λ i. refl) (λ i a xs. refl)
+      each_of entry at ys (group_at at (length ys)) (λ i a xs. group_outcome (members_of (defined dictionary a)) a xs)
+      (λ i xs. groups_outcome dictionary xs) (λ i. refl) (λ i a xs. refl)
       (λ a members rest above xs i here.
-      let said : members_of (definition_at every_entry (at i).entry) ≡ members_of (defined dict a) =
-      rw here.stands.first (members_by_number q fits a.vendor a.code) in
+      let said : members_of (definition_at dictionary (at i).entry) ≡ members_of (defined dictionary a) =
+      rw here.stands.first (members-of a.vendor a.code) in
       ap (group_by at (length ys) i) said
-      ∙ group_by_lem ys a members rest above xs i here (members_of (defined dict a)) (fits.groups a.vendor a.code))
+      ∙ group_by_lem ys a members rest above xs i here (members_of (defined dictionary a)))
 
   -- of AVPs that are a list of depth 1 with all descendants: the command's list, then each group
-  pub rows_of : (xs : List Avp) → IsForest 1 xs → Stands entry at 0 xs → (g : Grammar) → Named dict g → (end : ℕ)
-      → rows_by at g end (length xs) ≡ rows_outcome dict g end xs
+  pub rows_of : (xs : List Avp) → IsForest 1 xs → Stands entry at 0 xs → (g : Grammar) (end : ℕ)
+      → rows_by at g end (length xs) ≡ rows_outcome dictionary g end xs
   unfolding rows_by rows_outcome
-  rows_of xs f s g named end =
+  rows_of xs f s g end =
       let e : xs ≡ flat f.forest ++ [] = f.is ∙ sym (append-nil (flat f.forest)) in
       let n : length xs ≡ length (flat f.forest) = ap (λ (ys : List Avp). length ys) f.is in
-      let list = list_by_lem f.forest 0 [] 0 (length xs) f.placed tt (rw e at s) (omega arith) g named end in
+      let list = list_by_lem f.forest 0 [] 0 (length xs) f.placed tt (rw e at s) (omega arith) g end in
       rw (list, ← e, groups_by xs f s)
 
 -- ---- the log of a walk
 
 -- the checks by what a log has at each position; `other` is what stands where there is no position
-pub walked_rows : (p : Profile) → Fits p → (xs : List Avp) → IsForest 1 xs → (at : ℕ → Logged) (other : Logged)
-    → ((i : ℕ) → i < length (logged_from (number_in p) 0 xs) → at i ≡ get_or (logged_from (number_in p) 0 xs) i other)
-    → (g : Grammar) → Named p.entries g → (end : ℕ)
-    → rows_by at g end (length xs) ≡ rows_outcome p.entries g end xs
-walked_rows p fits xs f at other h g named end =
-    let stands = stands_at (number_in p) at xs 0 other (λ i l. rw (zero-add i) (h i l)) in
-    rows_of p fits at xs f stands g named end
+pub walked_rows : (xs : List Avp) → IsForest 1 xs → (at : ℕ → Logged) (other : Logged)
+    → ((i : ℕ) → i < length (logged_from (entry_of dictionary) 0 xs)
+    → at i ≡ get_or (logged_from (entry_of dictionary) 0 xs) i other)
+    → (g : Grammar) (end : ℕ) → rows_by at g end (length xs) ≡ rows_outcome dictionary g end xs
+walked_rows xs f at other h g end =
+    let stands = stands_at (entry_of dictionary) at xs 0 other (λ i l. rw (zero-add i) (h i l)) in
+    rows_of (entry_of dictionary) row_by_entry members_by_entry at xs f stands g end

@@ -12,14 +12,14 @@ use Rattle.rules.specs.declared.Grammar.{Grammar}
 use Rattle.rules.specs.Verdict.{or_else}
 use Rattle.rules.specs.Avp.{end_of}
 use Rattle.rules.specs.Rows.{admits_others}
-use Rattle.rules.specs.Dictionary.{members_of}
+use Rattle.rules.specs.Dictionary.{dictionary, members_of}
 use Rattle.rules.specs.RowChecks.{admission, none_met, counted, by_admission, missing}
-use Rattle.dictionary.specs.Entries.{every_entry, said_at, definition_at}
+use Rattle.dictionary.specs.Entries.{said_at, definition_at}
 use Rattle.walk_log.specs.Log.{Logged}
 
 -- the row of a list that names the entry with a number; none where no entry has it
 unfoldable pub admission_at : Grammar → ℕ → Admission
-admission_at g = said_at NoRow (λ d. admission g d.vendor d.code) every_entry
+admission_at g = said_at NoRow (λ d. admission g d.vendor d.code) dictionary
 
 -- the members of a list in order: the one at position i, the one behind its last descendant, and so on, before position
 -- `stop`. The first argument bounds the steps; as many as there are positions are enough
@@ -49,7 +49,7 @@ group_by at count i NoMembers = Pass
 
 -- what is said at a position by its entry
 abbrev pub group_at : (ℕ → Logged) → ℕ → ℕ → Outcome
-group_at at count i = group_by at count i (members_of (definition_at every_entry (at i).entry))
+group_at at count i = group_by at count i (members_of (definition_at dictionary (at i).entry))
 
 -- the first fault of what is said at n positions from i on
 unfoldable pub first_fault : (ℕ → Outcome) → ℕ → ℕ → Outcome

@@ -10,9 +10,10 @@ use Rattle.rules.specs.declared.Outcome.TheVariants.{Pass}
 use Rattle.rules.specs.Verdict.{or_else}
 use Rattle.rules.specs.Header.{vendor_3gpp}
 use Rattle.rules.specs.Avp.{end_of}
+use Rattle.rules.specs.Dictionary.{dictionary}
 use Rattle.rules.specs.Walk.{most_avps}
 use Rattle.rules.specs.Exchange.{policy_in, window_in, exchange_by}
-use Rattle.dictionary.specs.Entries.{every_entry, entry_of}
+use Rattle.dictionary.specs.Entries.{entry_of}
 use Rattle.walk_log.specs.Log.{Logged, logged_of, avps_in}
 use Rattle.exchange.specs.Firsts.{find_in}
 use Rattle.lists.specs.declared.groups.Groups.{Groups}
@@ -25,7 +26,7 @@ firsts_at at count i = firsts_from (family_end at count i - (i + 1)) at (i + 1) 
 
 -- an AVP has the entry of a vendor and code
 abbrev pub has_entry : Logged → ℕ → ℕ → Bool
-has_entry l vendor code = eqb l.entry (entry_of every_entry vendor code)
+has_entry l vendor code = eqb l.entry (entry_of dictionary vendor code)
 
 -- an AVP is a policy of the command's own list
 abbrev pub is_policy : Logged → Bool

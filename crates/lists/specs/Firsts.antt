@@ -4,18 +4,18 @@ use Rattle.std.specs.Prelude.{◌≡◌, ℕ, zero, suc, ◌-◌, min, List, con
 use Rattle.rules.specs.declared.Outcome.{Outcome}
 use Rattle.rules.specs.declared.Outcome.TheVariants.{Pass}
 use Rattle.rules.specs.declared.Grammar.{Grammar}
+use Rattle.rules.specs.Dictionary.{dictionary}
 use Rattle.rules.specs.Walk.{most_avps}
-use Rattle.dictionary.specs.Entries.{every_entry}
 use Rattle.walk_log.specs.Log.{Logged}
 use Rattle.lists.specs.ByLog.{list_by}
 
 -- no entry was met: the number of places of a record, which is no position, for each
 abbrev pub no_firsts : List ℕ
-no_firsts = replicate (length every_entry) most_avps
+no_firsts = replicate (length dictionary) most_avps
 
 -- a member at a position; a number that is no entry's has no place
 unfoldable pub noted : List ℕ → ℕ → ℕ → List ℕ
-noted firsts entry i = cond (ltb entry (length every_entry)) (set firsts entry (min (get_or firsts entry 0) i)) firsts
+noted firsts entry i = cond (ltb entry (length dictionary)) (set firsts entry (min (get_or firsts entry 0) i)) firsts
 
 -- the members of a list in order, as `loggedMembers` has them
 unfoldable pub firsts_from : ℕ → (ℕ → Logged) → ℕ → ℕ → List ℕ → List ℕ

@@ -1,23 +1,27 @@
 -- The rows of all lists as two tables of numbers: what a number says, and the rule of each right table, which holds for
 -- all lists at once.
-use Rattle.std.specs.Prelude.{◌≡◌, ℕ, zero, suc, ◌+◌, ◌*◌, ◌/◌, ◌%◌, ◌≤◌, ◌<◌, List, [], ◌∷◌, Bool, true, false, cond, length, get_or, leb}
+use Rattle.std.specs.Prelude.{◌≡◌, ℕ, zero, suc, ◌+◌, ◌*◌, ◌/◌, ◌%◌, ◌≤◌, ◌<◌, List, [], ◌∷◌, map, Bool, cond, ◌&&◌, length, get_or, eqb, leb, ltb}
 use Rattle.rules.specs.declared.Mark.{Mark}
 use Rattle.rules.specs.declared.Mark.TheVariants.{First, FirstIfPresent, Once, AtMostOnce, AnyNumber}
 use Rattle.rules.specs.declared.Grammar.{Grammar}
-use Rattle.rules.specs.declared.Grammar.TheVariants.{Request, Answer, ErrorAnswer, VendorSpecificApplicationId, ExperimentalResult, ProxyInfo, SupportedFeatures, TimeWindow, TransferPolicy, EventConfigurationRequest, EventReportingRequest, EventAnswer, EventReports}
+use Rattle.rules.specs.declared.Grammar.TheVariants.{Request, Answer, ErrorAnswer, VendorSpecificApplicationId, ExperimentalResult, ProxyInfo, SupportedFeatures, TimeWindow, TransferPolicy}
 use Rattle.rules.specs.declared.Admission.{Admission}
 use Rattle.rules.specs.declared.Admission.TheVariants.{ByRow, NoRow}
+use Rattle.rules.specs.declared.Outcome.{Outcome}
+use Rattle.rules.specs.declared.Outcome.TheVariants.{Pass}
+use Rattle.rules.specs.Verdict.{refused, refuse_if}
 use Rattle.rules.specs.Rows.{Row, rows_of}
 use Rattle.rules.specs.RowChecks.{is_required}
+use Rattle.rules.specs.Dictionary.{dictionary}
 use Rattle.rules.specs.Walk.{most_avps}
-use Rattle.dictionary.specs.Entries.{every_entry, vendor_of, code_of}
+use Rattle.dictionary.specs.Entries.{vendor_of, code_of}
 use Rattle.lists.specs.ByLog.{admission_at}
 
 -- the lists in the order of the tables
 abbrev pub lists : List Grammar
 lists =
     Request ∷ Answer ∷ VendorSpecificApplicationId ∷ ExperimentalResult ∷ ProxyInfo ∷ SupportedFeatures ∷ TimeWindow ∷
-    TransferPolicy ∷ ErrorAnswer ∷ EventConfigurationRequest ∷ EventReportingRequest ∷ EventAnswer ∷ EventReports ∷ []
+    TransferPolicy ∷ ErrorAnswer ∷ []
 
 abbrev pub list_at : ℕ → Grammar
 list_at n = get_or lists n Request
@@ -27,14 +31,10 @@ pub record ListAt (g : Grammar) (n : ℕ) : Type 0 where
   pub below : n < length lists
   pub is : list_at n ≡ g
 
--- the places that a list has in the tables: one for each entry of the dictionary, and 8 for the rows that must be met
+-- the places that a list has in the tables: one for each entry of the dictionary, and 24 for its rows
 abbrev pub entry_places : ℕ
-entry_places = length every_entry
+entry_places = length dictionary
 
-abbrev pub requirement_places : ℕ
-requirement_places = 8
-
--- and the counts that it has, one for each row
 abbrev pub row_places : ℕ
 row_places = 24
 
@@ -77,50 +77,54 @@ pub record Admits (g : Grammar) (entry : ℕ) (r : Admission) : Type 0 where
   pub is : r ≡ for_member (admission_at g entry)
   pub below : (row : ℕ) (mark : Mark) → r ≡ ByRow row mark → row < row_places
 
--- ---- the table of the rows that must be met
+-- ---- the table of the rows in the printed order
 
--- a row that must be met: its position among all rows of its list, where its count stands, and the AVP that it names
+-- what a missing row goes by: the AVP that it names, and whether it must be met
 pub record Requirement : Type 0 where
-  pub row : ℕ
   pub vendor : ℕ
   pub code : ℕ
+  pub required : Bool
 
-abbrev pub required_if : Bool → Requirement → List Requirement → List Requirement
-required_if true q qs = q ∷ qs
-required_if false q qs = qs
+abbrev pub requirement_of : Row → Requirement
+requirement_of r = record { vendor = r.vendor; code = r.code; required = is_required r.mark }
 
--- those among rows, in the printed order, counted from i
-unfoldable pub requirements_of : ℕ → List Row → List Requirement
-requirements_of i [] = []
-requirements_of i (r ∷ rs) =
-    required_if (is_required r.mark) (record { row = i; vendor = r.vendor; code = r.code }) (requirements_of (i + 1) rs)
-
--- a number is so many times a row, and an entry; from 24 on it is no row, and the list ends
-abbrev pub requirement_row : ℕ
-requirement_row = 64
+-- a number is an entry, and 64 with it where the row need not be met
+abbrev pub free_row : ℕ
+free_row = 64
 
 unfoldable pub requirement_in : ℕ → Requirement
 requirement_in number =
     record {
-      row = number / requirement_row;
-      vendor = vendor_of every_entry (number % requirement_row);
-      code = code_of every_entry (number % requirement_row);
+      vendor = vendor_of dictionary (number % free_row);
+      code = code_of dictionary (number % free_row);
+      required = ltb number free_row;
     }
 
--- those that stand at n places, up to the end
+-- behind the last row of a list
+abbrev pub end_of_rows : ℕ
+end_of_rows = 255
+
+-- the rows that stand at n places, up to the end
 unfoldable pub requirements_from : ℕ → List ℕ → ℕ → List Requirement
 requirements_from zero table place = []
 requirements_from (suc n) table place =
-    cond (leb row_places (get_or table place 0 / requirement_row)) []
+    cond (eqb (get_or table place 0) end_of_rows) []
     (requirement_in (get_or table place 0) ∷ requirements_from n table (place + 1))
 
-pub record RequirementTable (table : List ℕ) : Type 0 where
+pub record RowTable (table : List ℕ) : Type 0 where
   pub rule : (g : Grammar) (n : ℕ) → ListAt g n
-      → requirements_from requirement_places table (n * requirement_places) ≡ requirements_of 0 (rows_of g)
+      → requirements_from row_places table (n * row_places) ≡ map requirement_of (rows_of g)
+
+-- the first missing one, counted from i
+unfoldable pub missing_among : ℕ → List Requirement → List ℕ → ℕ → Outcome
+missing_among i [] counts end = Pass
+missing_among i (q ∷ qs) counts end =
+    refuse_if (q.required && eqb (get_or counts i 0) 0) (refused 5005 end q.vendor q.code)
+    (missing_among (i + 1) qs counts end)
 
 -- ---- what the checks of lists are lent: positions that a log has, and the two right tables
 
 pub record Lent (stop : ℕ) (admissions rows : List ℕ) : Type 0 where
   pub few : stop ≤ most_avps
   pub admits : AdmissionTable admissions
-  pub wants : RequirementTable rows
+  pub wants : RowTable rows

@@ -77,13 +77,6 @@ const TABLE: [u8; NUMBERS] = [
     AT_MOST_ONCE + 16, // ReferenceId
     AT_MOST_ONCE + 14, // TimeWindow
     NO_ROW, // TransferPolicy
-    NO_ROW, // AccessNetworkReports
-    NO_ROW, // EventConfiguration
-    NO_ROW, // EventConfigurationStatus
-    NO_ROW, // EventConfigurationState
-    NO_ROW, // EventReportingResults
-    NO_ROW, // ExtendedScefReferenceId
-    NO_ROW, // EventReports
     // BTA
     NO_ROW, // AuthApplicationId
     NO_ROW, // AcctApplicationId
@@ -133,13 +126,6 @@ const TABLE: [u8; NUMBERS] = [
     AT_MOST_ONCE + 14, // ReferenceId
     NO_ROW, // TimeWindow
     ANY_NUMBER + 17, // TransferPolicy
-    NO_ROW, // AccessNetworkReports
-    NO_ROW, // EventConfiguration
-    NO_ROW, // EventConfigurationStatus
-    NO_ROW, // EventConfigurationState
-    NO_ROW, // EventReportingResults
-    NO_ROW, // ExtendedScefReferenceId
-    NO_ROW, // EventReports
     // 260 Vendor-Specific-Application-Id
     AT_MOST_ONCE + 1, // AuthApplicationId
     AT_MOST_ONCE + 2, // AcctApplicationId
@@ -189,13 +175,6 @@ const TABLE: [u8; NUMBERS] = [
     NO_ROW, // ReferenceId
     NO_ROW, // TimeWindow
     NO_ROW, // TransferPolicy
-    NO_ROW, // AccessNetworkReports
-    NO_ROW, // EventConfiguration
-    NO_ROW, // EventConfigurationStatus
-    NO_ROW, // EventConfigurationState
-    NO_ROW, // EventReportingResults
-    NO_ROW, // ExtendedScefReferenceId
-    NO_ROW, // EventReports
     // 297 Experimental-Result
     NO_ROW, // AuthApplicationId
     NO_ROW, // AcctApplicationId
@@ -245,13 +224,6 @@ const TABLE: [u8; NUMBERS] = [
     NO_ROW, // ReferenceId
     NO_ROW, // TimeWindow
     NO_ROW, // TransferPolicy
-    NO_ROW, // AccessNetworkReports
-    NO_ROW, // EventConfiguration
-    NO_ROW, // EventConfigurationStatus
-    NO_ROW, // EventConfigurationState
-    NO_ROW, // EventReportingResults
-    NO_ROW, // ExtendedScefReferenceId
-    NO_ROW, // EventReports
     // 284 Proxy-Info
     NO_ROW, // AuthApplicationId
     NO_ROW, // AcctApplicationId
@@ -301,13 +273,6 @@ const TABLE: [u8; NUMBERS] = [
     NO_ROW, // ReferenceId
     NO_ROW, // TimeWindow
     NO_ROW, // TransferPolicy
-    NO_ROW, // AccessNetworkReports
-    NO_ROW, // EventConfiguration
-    NO_ROW, // EventConfigurationStatus
-    NO_ROW, // EventConfigurationState
-    NO_ROW, // EventReportingResults
-    NO_ROW, // ExtendedScefReferenceId
-    NO_ROW, // EventReports
     // 628 Supported-Features
     NO_ROW, // AuthApplicationId
     NO_ROW, // AcctApplicationId
@@ -357,13 +322,6 @@ const TABLE: [u8; NUMBERS] = [
     NO_ROW, // ReferenceId
     NO_ROW, // TimeWindow
     NO_ROW, // TransferPolicy
-    NO_ROW, // AccessNetworkReports
-    NO_ROW, // EventConfiguration
-    NO_ROW, // EventConfigurationStatus
-    NO_ROW, // EventConfigurationState
-    NO_ROW, // EventReportingResults
-    NO_ROW, // ExtendedScefReferenceId
-    NO_ROW, // EventReports
     // 4204 Time-Window
     NO_ROW, // AuthApplicationId
     NO_ROW, // AcctApplicationId
@@ -413,13 +371,6 @@ const TABLE: [u8; NUMBERS] = [
     NO_ROW, // ReferenceId
     NO_ROW, // TimeWindow
     NO_ROW, // TransferPolicy
-    NO_ROW, // AccessNetworkReports
-    NO_ROW, // EventConfiguration
-    NO_ROW, // EventConfigurationStatus
-    NO_ROW, // EventConfigurationState
-    NO_ROW, // EventReportingResults
-    NO_ROW, // ExtendedScefReferenceId
-    NO_ROW, // EventReports
     // 4207 Transfer-Policy
     NO_ROW, // AuthApplicationId
     NO_ROW, // AcctApplicationId
@@ -469,13 +420,6 @@ const TABLE: [u8; NUMBERS] = [
     NO_ROW, // ReferenceId
     AT_MOST_ONCE + 1, // TimeWindow
     NO_ROW, // TransferPolicy
-    NO_ROW, // AccessNetworkReports
-    NO_ROW, // EventConfiguration
-    NO_ROW, // EventConfigurationStatus
-    NO_ROW, // EventConfigurationState
-    NO_ROW, // EventReportingResults
-    NO_ROW, // ExtendedScefReferenceId
-    NO_ROW, // EventReports
     // an answer with E
     NO_ROW, // AuthApplicationId
     NO_ROW, // AcctApplicationId
@@ -525,237 +469,6 @@ const TABLE: [u8; NUMBERS] = [
     NO_ROW, // ReferenceId
     NO_ROW, // TimeWindow
     NO_ROW, // TransferPolicy
-    NO_ROW, // AccessNetworkReports
-    NO_ROW, // EventConfiguration
-    NO_ROW, // EventConfigurationStatus
-    NO_ROW, // EventConfigurationState
-    NO_ROW, // EventReportingResults
-    NO_ROW, // ExtendedScefReferenceId
-    NO_ROW, // EventReports
-    // the request for configuration, Nta
-    NO_ROW, // AuthApplicationId
-    NO_ROW, // AcctApplicationId
-    NO_ROW, // RedirectHostUsage
-    NO_ROW, // RedirectMaxCacheTime
-    NO_ROW, // VendorId
-    NO_ROW, // ResultCode
-    ONCE + 3, // AuthSessionState
-    NO_ROW, // OriginStateId
-    NO_ROW, // ExperimentalResultCode
-    FIRST + 0, // SessionId
-    ONCE + 4, // OriginHost
-    ONCE + 5, // OriginRealm
-    AT_MOST_ONCE + 7, // DestinationHost
-    ONCE + 6, // DestinationRealm
-    NO_ROW, // RedirectHost
-    NO_ROW, // ProxyHost
-    NO_ROW, // ProxyState
-    ANY_NUMBER + 13, // RouteRecord
-    NO_ROW, // FailedAvp
-    NO_ROW, // ErrorMessage
-    NO_ROW, // ErrorReportingHost
-    ONCE + 2, // VendorSpecificApplicationId
-    NO_ROW, // ExperimentalResult
-    ANY_NUMBER + 12, // ProxyInfo
-    NO_ROW, // RatingGroup
-    NO_ROW, // CcInputOctets
-    NO_ROW, // CcOutputOctets
-    NO_ROW, // CcTotalOctets
-    AT_MOST_ONCE + 1, // Drmp
-    NO_ROW, // OcSupportedFeatures
-    NO_ROW, // OcOlr
-    NO_ROW, // Load
-    NO_ROW, // FeatureListId
-    NO_ROW, // FeatureList
-    NO_ROW, // ApplicationServiceProviderIdentity
-    NO_ROW, // PcrfAddress
-    NO_ROW, // SupportedFeatures
-    NO_ROW, // MaxRequestedBandwidthDl
-    NO_ROW, // MaxRequestedBandwidthUl
-    NO_ROW, // TransferRequestType
-    NO_ROW, // TransferEndTime
-    NO_ROW, // TransferStartTime
-    NO_ROW, // TransferPolicyId
-    NO_ROW, // NumberOfUes
-    NO_ROW, // NetworkAreaInfoList
-    NO_ROW, // ReferenceId
-    NO_ROW, // TimeWindow
-    NO_ROW, // TransferPolicy
-    ONCE + 8, // AccessNetworkReports
-    ANY_NUMBER + 9, // EventConfiguration
-    NO_ROW, // EventConfigurationStatus
-    AT_MOST_ONCE + 10, // EventConfigurationState
-    NO_ROW, // EventReportingResults
-    AT_MOST_ONCE + 11, // ExtendedScefReferenceId
-    NO_ROW, // EventReports
-    // the request for reporting, Nta
-    NO_ROW, // AuthApplicationId
-    NO_ROW, // AcctApplicationId
-    NO_ROW, // RedirectHostUsage
-    NO_ROW, // RedirectMaxCacheTime
-    NO_ROW, // VendorId
-    NO_ROW, // ResultCode
-    ONCE + 3, // AuthSessionState
-    NO_ROW, // OriginStateId
-    NO_ROW, // ExperimentalResultCode
-    FIRST + 0, // SessionId
-    ONCE + 4, // OriginHost
-    ONCE + 5, // OriginRealm
-    AT_MOST_ONCE + 7, // DestinationHost
-    ONCE + 6, // DestinationRealm
-    NO_ROW, // RedirectHost
-    NO_ROW, // ProxyHost
-    NO_ROW, // ProxyState
-    ANY_NUMBER + 12, // RouteRecord
-    NO_ROW, // FailedAvp
-    NO_ROW, // ErrorMessage
-    NO_ROW, // ErrorReportingHost
-    ONCE + 2, // VendorSpecificApplicationId
-    NO_ROW, // ExperimentalResult
-    ANY_NUMBER + 11, // ProxyInfo
-    NO_ROW, // RatingGroup
-    NO_ROW, // CcInputOctets
-    NO_ROW, // CcOutputOctets
-    NO_ROW, // CcTotalOctets
-    AT_MOST_ONCE + 1, // Drmp
-    NO_ROW, // OcSupportedFeatures
-    NO_ROW, // OcOlr
-    NO_ROW, // Load
-    NO_ROW, // FeatureListId
-    NO_ROW, // FeatureList
-    NO_ROW, // ApplicationServiceProviderIdentity
-    NO_ROW, // PcrfAddress
-    NO_ROW, // SupportedFeatures
-    NO_ROW, // MaxRequestedBandwidthDl
-    NO_ROW, // MaxRequestedBandwidthUl
-    NO_ROW, // TransferRequestType
-    NO_ROW, // TransferEndTime
-    NO_ROW, // TransferStartTime
-    NO_ROW, // TransferPolicyId
-    NO_ROW, // NumberOfUes
-    NO_ROW, // NetworkAreaInfoList
-    NO_ROW, // ReferenceId
-    NO_ROW, // TimeWindow
-    NO_ROW, // TransferPolicy
-    ONCE + 8, // AccessNetworkReports
-    NO_ROW, // EventConfiguration
-    AT_MOST_ONCE + 9, // EventConfigurationStatus
-    NO_ROW, // EventConfigurationState
-    NO_ROW, // EventReportingResults
-    NO_ROW, // ExtendedScefReferenceId
-    ANY_NUMBER + 10, // EventReports
-    // an answer of Nta
-    NO_ROW, // AuthApplicationId
-    NO_ROW, // AcctApplicationId
-    AT_MOST_ONCE + 12, // RedirectHostUsage
-    AT_MOST_ONCE + 13, // RedirectMaxCacheTime
-    NO_ROW, // VendorId
-    AT_MOST_ONCE + 6, // ResultCode
-    ONCE + 3, // AuthSessionState
-    NO_ROW, // OriginStateId
-    NO_ROW, // ExperimentalResultCode
-    FIRST + 0, // SessionId
-    ONCE + 4, // OriginHost
-    ONCE + 5, // OriginRealm
-    NO_ROW, // DestinationHost
-    NO_ROW, // DestinationRealm
-    ANY_NUMBER + 11, // RedirectHost
-    NO_ROW, // ProxyHost
-    NO_ROW, // ProxyState
-    ANY_NUMBER + 15, // RouteRecord
-    AT_MOST_ONCE + 10, // FailedAvp
-    AT_MOST_ONCE + 8, // ErrorMessage
-    AT_MOST_ONCE + 9, // ErrorReportingHost
-    ONCE + 2, // VendorSpecificApplicationId
-    AT_MOST_ONCE + 7, // ExperimentalResult
-    ANY_NUMBER + 14, // ProxyInfo
-    NO_ROW, // RatingGroup
-    NO_ROW, // CcInputOctets
-    NO_ROW, // CcOutputOctets
-    NO_ROW, // CcTotalOctets
-    AT_MOST_ONCE + 1, // Drmp
-    NO_ROW, // OcSupportedFeatures
-    NO_ROW, // OcOlr
-    NO_ROW, // Load
-    NO_ROW, // FeatureListId
-    NO_ROW, // FeatureList
-    NO_ROW, // ApplicationServiceProviderIdentity
-    NO_ROW, // PcrfAddress
-    NO_ROW, // SupportedFeatures
-    NO_ROW, // MaxRequestedBandwidthDl
-    NO_ROW, // MaxRequestedBandwidthUl
-    NO_ROW, // TransferRequestType
-    NO_ROW, // TransferEndTime
-    NO_ROW, // TransferStartTime
-    NO_ROW, // TransferPolicyId
-    NO_ROW, // NumberOfUes
-    NO_ROW, // NetworkAreaInfoList
-    NO_ROW, // ReferenceId
-    NO_ROW, // TimeWindow
-    NO_ROW, // TransferPolicy
-    NO_ROW, // AccessNetworkReports
-    NO_ROW, // EventConfiguration
-    NO_ROW, // EventConfigurationStatus
-    NO_ROW, // EventConfigurationState
-    NO_ROW, // EventReportingResults
-    NO_ROW, // ExtendedScefReferenceId
-    NO_ROW, // EventReports
-    // 4215 Event-Reports
-    NO_ROW, // AuthApplicationId
-    NO_ROW, // AcctApplicationId
-    NO_ROW, // RedirectHostUsage
-    NO_ROW, // RedirectMaxCacheTime
-    NO_ROW, // VendorId
-    NO_ROW, // ResultCode
-    NO_ROW, // AuthSessionState
-    NO_ROW, // OriginStateId
-    NO_ROW, // ExperimentalResultCode
-    NO_ROW, // SessionId
-    NO_ROW, // OriginHost
-    NO_ROW, // OriginRealm
-    NO_ROW, // DestinationHost
-    NO_ROW, // DestinationRealm
-    NO_ROW, // RedirectHost
-    NO_ROW, // ProxyHost
-    NO_ROW, // ProxyState
-    NO_ROW, // RouteRecord
-    NO_ROW, // FailedAvp
-    NO_ROW, // ErrorMessage
-    NO_ROW, // ErrorReportingHost
-    NO_ROW, // VendorSpecificApplicationId
-    NO_ROW, // ExperimentalResult
-    NO_ROW, // ProxyInfo
-    NO_ROW, // RatingGroup
-    NO_ROW, // CcInputOctets
-    NO_ROW, // CcOutputOctets
-    NO_ROW, // CcTotalOctets
-    NO_ROW, // Drmp
-    NO_ROW, // OcSupportedFeatures
-    NO_ROW, // OcOlr
-    NO_ROW, // Load
-    NO_ROW, // FeatureListId
-    NO_ROW, // FeatureList
-    NO_ROW, // ApplicationServiceProviderIdentity
-    NO_ROW, // PcrfAddress
-    NO_ROW, // SupportedFeatures
-    NO_ROW, // MaxRequestedBandwidthDl
-    NO_ROW, // MaxRequestedBandwidthUl
-    NO_ROW, // TransferRequestType
-    NO_ROW, // TransferEndTime
-    NO_ROW, // TransferStartTime
-    NO_ROW, // TransferPolicyId
-    NO_ROW, // NumberOfUes
-    NO_ROW, // NetworkAreaInfoList
-    NO_ROW, // ReferenceId
-    NO_ROW, // TimeWindow
-    NO_ROW, // TransferPolicy
-    NO_ROW, // AccessNetworkReports
-    ONCE + 0, // EventConfiguration
-    NO_ROW, // EventConfigurationStatus
-    NO_ROW, // EventConfigurationState
-    AT_MOST_ONCE + 1, // EventReportingResults
-    NO_ROW, // ExtendedScefReferenceId
-    NO_ROW, // EventReports
 ];
 
 pub(crate) fn table() -> [u8; NUMBERS]

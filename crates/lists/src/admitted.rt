@@ -70,9 +70,5 @@ pub(crate) fn admits_others(grammar: Grammar) -> bool
         Grammar::TimeWindow => true,
         Grammar::TransferPolicy => true,
         Grammar::ErrorAnswer => true,
-        Grammar::EventConfigurationRequest => true,
-        Grammar::EventReportingRequest => true,
-        Grammar::EventAnswer => true,
-        Grammar::EventReports => true,
     }
 }

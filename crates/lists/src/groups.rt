@@ -9,7 +9,7 @@ ghost use Rattle.exchange.specs.Firsts.{find_in};
 ghost use Rattle.lists.specs.Exchanges.{is_policy, as_policy, as_window, GroupsJudged};
 ghost use Rattle.lists.specs.Tables.{Lent};
 
-use crate::{admission_table, list_outcome, no_firsts, requirement_table};
+use crate::{admission_table, list_outcome, no_firsts, row_table};
 use dictionary::kinds;
 use dictionary::kinds::{TimeWindow, TransferPolicy};
 use exchange::answer::policy_in;
@@ -103,7 +103,7 @@ pub(crate) fn groups_outcome(
     log: &[u32; limits::LOG_NUMBERS],
     count: usize,
     admissions: &[u8; admission_table::NUMBERS],
-    rows: &[u16; requirement_table::NUMBERS],
+    rows: &[u8; row_table::NUMBERS],
 ) -> Groups
     requires { Lent count admissions.now rows.now }
     ensures { GroupsJudged (logged_of log.now) (avps_in log.now count) s.now count result }

@@ -21,8 +21,8 @@ mod admitted;
 mod faults;
 mod groups;
 mod places;
-mod requirement_table;
 mod requirements;
+mod row_table;
 
 // What the count at a place gains by a member of a row.
 fn gain(k: usize, row: usize) -> u16
@@ -93,7 +93,7 @@ fn list_outcome(
     from: usize,
     to: usize,
     admissions: &[u8; admission_table::NUMBERS],
-    rows: &[u16; requirement_table::NUMBERS],
+    rows: &[u8; row_table::NUMBERS],
     grammar: Grammar,
     end: u32,
     firsts: &mut [u16; kinds::ENTRIES],
@@ -140,7 +140,7 @@ pub fn judge(
     ensures { Answers verdict_of (lists_in rules s.now log.now end count) result }
 {
     let admissions = admission_table::table();
-    let rows = requirement_table::table();
+    let rows = row_table::table();
     let used = walk_log::used(count);
     let mut firsts = no_firsts();
     let grammar = rules.rows;

@@ -3,9 +3,9 @@ ghost use Rattle.lists.specs.Tables.{ListAt};
 
 use rules::Grammar;
 
-pub(crate) const LISTS: usize = 13;
+pub(crate) const LISTS: usize = 9;
 
-// The counts that a list has, one for each row: the longest list has 23.
+// The places that a list has for its rows: the longest one, of 23, has an end too.
 pub(crate) const ROW_PLACES: usize = 24;
 
 pub(crate) fn list_index(grammar: Grammar) -> usize
@@ -21,9 +21,5 @@ pub(crate) fn list_index(grammar: Grammar) -> usize
         Grammar::TimeWindow => 6,
         Grammar::TransferPolicy => 7,
         Grammar::ErrorAnswer => 8,
-        Grammar::EventConfigurationRequest => 9,
-        Grammar::EventReportingRequest => 10,
-        Grammar::EventAnswer => 11,
-        Grammar::EventReports => 12,
     }
 }

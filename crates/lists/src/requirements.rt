@@ -1,38 +1,40 @@
 // The rows of a list that must be met (01, Order of checks, Rows).
-ghost use Rattle.std.specs.Prelude.{◌≡◌, ◌/◌};
+ghost use Rattle.std.specs.Prelude.{◌≡◌, ◌&&◌, eqb, ltb};
 ghost use Rattle.rules.specs.RowChecks.{missing};
-ghost use Rattle.lists.specs.Tables.{requirement_row, RequirementTable};
+ghost use Rattle.lists.specs.Tables.{free_row, RowTable};
 
-use crate::{places, requirement_table};
+use crate::{places, row_table};
 use rules::{Grammar, Outcome};
 
-// The row of a number of the table.
-fn row_in(number: u16) -> usize
-    ensures { result ≡ number / requirement_row }
+// Whether a row, by its number in the table, is missing where it was met so often.
+fn is_missing(number: u8, count: u16) -> bool
+    ensures { result ≡ (ltb number free_row && eqb count 0) }
 {
-    (number / requirement_table::ROW) as usize
+    if row_table::FREE <= number {
+        return false;
+    }
+    count == 0
 }
 
 // The first missing row of a list that ends at `end`. The counts are only looked at, so they are lent.
 pub(crate) fn missing_row(
-    table: &[u16; requirement_table::NUMBERS],
+    table: &[u8; row_table::NUMBERS],
     grammar: Grammar,
     counts: &[u16; places::ROW_PLACES],
     end: u32,
 ) -> Outcome
-    requires { RequirementTable table.now }
+    requires { RowTable table.now }
     ensures { result ≡ missing grammar counts.now end }
 {
-    let from = places::list_index(grammar) * requirement_table::PLACES;
+    let from = places::list_index(grammar) * places::ROW_PLACES;
     let mut k: usize = 0;
-    while k < requirement_table::PLACES {
+    while k < places::ROW_PLACES {
         let number = table[from + k];
-        let row = row_in(number);
-        if places::ROW_PLACES <= row {
+        if number == row_table::END {
             return Outcome::Pass;
         }
-        if counts[row] == 0 {
-            let entry = (number % requirement_table::ROW) as u8;
+        if is_missing(number, counts[k]) {
+            let entry = number % row_table::FREE;
             return avp::refusal(
                 5005,
                 end,

@@ -7,7 +7,7 @@ ghost use Rattle.rules.specs.Record.{data_start, data_at};
 ghost use Rattle.numbers.specs.Numbers.{numbered_record};
 ghost use Rattle.lookup.specs.Promise.{SoughtNext, IsSought};
 
-use rules::{Avp, Found, Record, Sought, layout, limits};
+use rules::{Avp, Found, Record, Sought, limits};
 
 // What a search looks for: an AVP at depth 1 with a vendor and code.
 fn matches(a: Avp, vendor: u32, code: u32) -> bool
@@ -75,7 +75,7 @@ fn with_next(
 // The AVP at depth 1 with a vendor and code that has as many of them before it as the ordinal says, and how many there
 // are, in the record that the numbers stand for.
 pub fn search_numbers(
-    numbers: &[u32; layout::RECORD_NUMBERS],
+    numbers: &[u32; limits::RECORD_NUMBERS],
     vendor: u32,
     code: u32,
     ordinal: usize,
@@ -99,7 +99,7 @@ pub fn search_numbers(
 pub fn search(record: Record, vendor: u32, code: u32, ordinal: usize) -> Sought
     ensures { IsSought «record» vendor code ordinal result }
 {
-    let mut numbers = [0u32; layout::RECORD_NUMBERS];
+    let mut numbers = [0u32; limits::RECORD_NUMBERS];
     numbers::put(&mut numbers, record);
     search_numbers(&numbers, vendor, code, ordinal)
 }

@@ -15,8 +15,7 @@ use Rattle.rules.specs.Draft.{draft_of, is_well_formed}
 use Rattle.rules.specs.Writer.{own_outcome, draft_outcome}
 use Rattle.rules.proofs.Walk.{by_cases}
 use Rattle.walk_log.specs.Log.{bit}
-use Rattle.numbers.specs.Layout.{avp_mAt, avp_pAt, numbers_per_position, numbered_place}
-use Rattle.numbers.specs.Numbers.{head_of, head_numbers, avp_numbers, avps_numbers, numbers_of, numbered_record}
+use Rattle.numbers.specs.Numbers.{head_of, head_numbers, avp_numbers, avps_numbers, numbers_of, numbered_place, numbered_record}
 use Rattle.numbers.specs.Flags.{is_flag, head_flags_fit, avp_flags_fit, flags_fit_from, flags_fit}
 use Rattle.numbers.specs.Draft.{overfull_record, numbered_draft}
 use Rattle.numbers.proofs.Numbers.{record_back}
@@ -61,12 +60,10 @@ avps_fit numbers (a ∷ xs) i e =
     let at = numbered_place i in
     let here : (k : ℕ) → get_or numbers (at + k) 0 ≡ get_or (avp_numbers a ++ avps_numbers xs) k 0 =
     λ k. sym (get_or-drop at numbers k 0) ∙ ap (λ (l : List ℕ). get_or l k 0) e in
-    let n : numbered_place (i + 1) ≡ at + numbers_per_position = omega arith in
+    let n : numbered_place (i + 1) ≡ at + 7 = omega arith in
     let others : drop (numbered_place (i + 1)) numbers ≡ avps_numbers xs =
-    ap (λ (k : ℕ). drop k numbers) n
-    ∙ sym (drop-drop numbers_per_position at numbers)
-    ∙ ap (λ (l : List ℕ). drop numbers_per_position l) e in
-    rw (here avp_mAt, here avp_pAt, bit_fits a.m, bit_fits a.p) (avps_fit numbers xs (i + 1) others)
+    ap (λ (k : ℕ). drop k numbers) n ∙ sym (drop-drop 7 at numbers) ∙ ap (λ (l : List ℕ). drop 7 l) e in
+    rw (here 3, here 4, bit_fits a.m, bit_fits a.p) (avps_fit numbers xs (i + 1) others)
 
 module _ (r : Record) (full : length r.avps ≡ most_avps) where
   pub record_fits : flags_fit (numbers_of r) ≡ true

@@ -16,8 +16,7 @@ use Rattle.rules.specs.Search.{blank, avp_in}
 use Rattle.rules.specs.Command.{command_outcome}
 use Rattle.rules.specs.Record.{in_room, empty_record, record_by, reading}
 use Rattle.walk_log.proofs.Kept.{bit_back}
-use Rattle.numbers.specs.Layout.{command_code_at, application_at, hop_by_hop_at, end_to_end_at, avp_vendor_at, avp_code_at, avp_mAt, avp_pAt, avp_start_at, avp_length_at, numbers_per_position, record_numbers, numbered_place}
-use Rattle.numbers.specs.Numbers.{head_of, head_numbers, avp_numbers, avps_numbers, numbers_of, numbered_avp_from, numbered_avp, numbered_avps, numbered_count, numbered_record}
+use Rattle.numbers.specs.Numbers.{head_of, head_numbers, avp_numbers, avps_numbers, numbers_of, record_numbers, numbered_place, numbered_avp_from, numbered_avp, numbered_avps, numbered_count, numbered_record}
 
 -- ---- no AVP from position 256 on
 
@@ -26,15 +25,7 @@ unfolding numbered_avp
 avp_out numbers i e h =
     let none : (k : ℕ) → get_or numbers (numbered_place i + k) 0 ≡ 0 = λ k. get_or-eq_default numbers 0 (omega arith) in
     let first : get_or numbers (numbered_place i) 0 ≡ 0 = get_or-eq_default numbers 0 (omega arith) in
-    rw (
-      first,
-      none avp_vendor_at,
-      none avp_code_at,
-      none avp_mAt,
-      none avp_pAt,
-      none avp_start_at,
-      none avp_length_at,
-    )
+    rw (first, none 1, none 2, none 3, none 4, none 5, none 6)
 
 -- ---- in room for 256
 
@@ -88,19 +79,11 @@ module _ (numbers : List ℕ) where
   unfolding numbered_record
   count_in = refl
 
-  pub code_in : (numbered_record numbers).command_code ≡ get_or numbers command_code_at 0
-  unfolding numbered_record
-  code_in = refl
-
-  pub application_in : (numbered_record numbers).application ≡ get_or numbers application_at 0
-  unfolding numbered_record
-  application_in = refl
-
-  pub hop_in : (numbered_record numbers).hop_by_hop ≡ get_or numbers hop_by_hop_at 0
+  pub hop_in : (numbered_record numbers).hop_by_hop ≡ get_or numbers 4 0
   unfolding numbered_record
   hop_in = refl
 
-  pub end_in : (numbered_record numbers).end_to_end ≡ get_or numbers end_to_end_at 0
+  pub end_in : (numbered_record numbers).end_to_end ≡ get_or numbers 5 0
   unfolding numbered_record
   end_in = refl
 
@@ -114,22 +97,10 @@ avps_back numbers (a ∷ xs) i e =
     λ k. sym (get_or-drop at numbers k 0) ∙ ap (λ (l : List ℕ). get_or l k 0) e in
     let first : get_or numbers at 0 ≡ a.depth = ap (λ (n : ℕ). get_or numbers n 0) (sym (add-zero at)) ∙ here 0 in
     let one : numbered_avp_from numbers at ≡ a =
-    rw (
-      first,
-      here avp_vendor_at,
-      here avp_code_at,
-      here avp_mAt,
-      here avp_pAt,
-      here avp_start_at,
-      here avp_length_at,
-      bit_back a.m,
-      bit_back a.p,
-    ) in
-    let n : numbered_place (i + 1) ≡ at + numbers_per_position = omega arith in
+    rw (first, here 1, here 2, here 3, here 4, here 5, here 6, bit_back a.m, bit_back a.p) in
+    let n : numbered_place (i + 1) ≡ at + 7 = omega arith in
     let others : drop (numbered_place (i + 1)) numbers ≡ avps_numbers xs =
-    ap (λ (k : ℕ). drop k numbers) n
-    ∙ sym (drop-drop numbers_per_position at numbers)
-    ∙ ap (λ (l : List ℕ). drop numbers_per_position l) e in
+    ap (λ (k : ℕ). drop k numbers) n ∙ sym (drop-drop 7 at numbers) ∙ ap (λ (l : List ℕ). drop 7 l) e in
     let more : numbered_avps numbers (i + 1) (length xs) ≡ xs = avps_back numbers xs (i + 1) others in
     cc
 

@@ -11,8 +11,7 @@ use lib.Seq.{drop-cons, get_or-take, length-take-le}
 use Rattle.rules.specs.Walk.{most_avps}
 use Rattle.rules.specs.Search.{blank, avp_in}
 use Rattle.rules.specs.Draft.{name_fits, names_fit}
-use Rattle.numbers.specs.Layout.{avp_vendor_at, avp_code_at, numbered_place}
-use Rattle.numbers.specs.Numbers.{numbered_avp, numbered_avps, numbered_count, numbered_record, numbered_used}
+use Rattle.numbers.specs.Numbers.{numbered_place, numbered_avp, numbered_avps, numbered_count, numbered_record, numbered_used}
 use Rattle.numbers.proofs.Numbers.{avps_full, avp_in_lem, count_in}
 
 module _ (numbers : List ℕ) where
@@ -64,10 +63,7 @@ module _ (numbers : List ℕ) where
     names_from i zero (suc k) = refl
     names_from i (suc n) (suc k) =
         let rest = names_from (i + 1) n k in
-        rw (
-          lt-ltb _ _ (small (numbered_place i + avp_vendor_at)),
-          lt-ltb _ _ (small (numbered_place i + avp_code_at)),
-        ) rest
+        rw (lt-ltb _ _ (small (numbered_place i + 1)), lt-ltb _ _ (small (numbered_place i + 2))) rest
 
     pub used_names_fit : names_fit (numbered_used numbers) ≡ true
     unfolding numbered_record

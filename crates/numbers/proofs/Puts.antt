@@ -17,8 +17,7 @@ use Rattle.octets.proofs.Puts.{sets-append}
 use Rattle.walk_log.specs.Log.{avp_of, avps_in}
 use Rattle.walk_log.proofs.Log.{length-avps_in, avps_used, avps_at_lem}
 use Rattle.numbers.specs.declared.Head.{Head}
-use Rattle.numbers.specs.Layout.{numbers_per_position, record_numbers, numbered_place}
-use Rattle.numbers.specs.Numbers.{head_of, head_numbers, avp_numbers, avps_numbers, numbers_of, put_avps}
+use Rattle.numbers.specs.Numbers.{head_of, head_numbers, avp_numbers, avps_numbers, numbers_of, record_numbers, numbered_place, put_avps}
 use Rattle.numbers.proofs.Numbers.{room_full}
 
 -- ---- one after the other
@@ -32,7 +31,7 @@ module _ (l : List ℕ) (i : ℕ) (a : Avp) (after : List ℕ) (put : after ≡ 
   put_cons : (xs : List Avp) → put_avps after (i + 1) xs ≡ put_avps l i (a ∷ xs)
   unfolding avps_numbers
   put_cons xs =
-      let n : numbered_place (i + 1) ≡ numbered_place i + numbers_per_position = omega arith in
+      let n : numbered_place (i + 1) ≡ numbered_place i + 7 = omega arith in
       ap (λ (k : List ℕ). put_avps k (i + 1) xs) put
       ∙ ap (λ (k : ℕ). sets (sets l (numbered_place i) (avp_numbers a)) k (avps_numbers xs)) n
       ∙ sym (sets-append l (numbered_place i) (avp_numbers a) (avps_numbers xs))
@@ -85,7 +84,7 @@ sets_whole l vs e =
     let short : length l ≤ 0 + length vs = omega arith in
     sets-eq vs l 0 (omega arith) ∙ ap (λ (r : List ℕ). vs ++ r) (drop_of_length-le l short) ∙ append-nil vs
 
-length-avps_numbers : (xs : List Avp) → length (avps_numbers xs) ≡ length xs * numbers_per_position
+length-avps_numbers : (xs : List Avp) → length (avps_numbers xs) ≡ length xs * 7
 unfolding avps_numbers
 length-avps_numbers [] = refl
 length-avps_numbers (a ∷ xs) =

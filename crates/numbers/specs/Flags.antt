@@ -2,18 +2,17 @@
 -- of the 256 positions, used or not.
 use Rattle.std.specs.Prelude.{ℕ, zero, suc, ◌+◌, List, Bool, true, ◌&&◌, get_or, leb}
 use Rattle.rules.specs.Walk.{most_avps}
-use Rattle.numbers.specs.Layout.{r_at, p_at, e_at, t_at, avp_mAt, avp_pAt, numbered_place}
+use Rattle.numbers.specs.Numbers.{numbered_place}
 
 abbrev pub is_flag : ℕ → Bool
 is_flag n = leb n 1
 
 unfoldable pub head_flags_fit : List ℕ → Bool
 head_flags_fit numbers =
-    is_flag (get_or numbers r_at 0) && is_flag (get_or numbers p_at 0) && is_flag (get_or numbers e_at 0) && is_flag (get_or numbers t_at 0)
+    is_flag (get_or numbers 0 0) && is_flag (get_or numbers 1 0) && is_flag (get_or numbers 2 0) && is_flag (get_or numbers 3 0)
 
 unfoldable pub avp_flags_fit : List ℕ → ℕ → Bool
-avp_flags_fit numbers i =
-    is_flag (get_or numbers (numbered_place i + avp_mAt) 0) && is_flag (get_or numbers (numbered_place i + avp_pAt) 0)
+avp_flags_fit numbers i = is_flag (get_or numbers (numbered_place i + 3) 0) && is_flag (get_or numbers (numbered_place i + 4) 0)
 
 -- those of the next n positions from one on
 unfoldable pub flags_fit_from : List ℕ → ℕ → ℕ → Bool

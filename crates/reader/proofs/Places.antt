@@ -7,7 +7,7 @@ use native.Mathlib.Omega.{arith}
 use lib.ListN.{length, set, take, replicate}
 use lib.Seq.{take-suc, take-length, length-take-le, set_at, append_snoc}
 use Rattle.rules.specs.declared.Avp.{Avp}
-use Rattle.rules.specs.Header.{command_flags, command_code, application, hop_by_hop, end_to_end, is_request, is_proxiable, is_error, is_retransmitted}
+use Rattle.rules.specs.Header.{command_flags, hop_by_hop, end_to_end, is_request, is_proxiable, is_error, is_retransmitted}
 use Rattle.rules.specs.Search.{blank, avp_in}
 use Rattle.rules.specs.Record.{in_room, record_of}
 
@@ -36,8 +36,6 @@ pub record_is : (s : List ℕ) (xs : List Avp) (n : ℕ) → length xs ≡ n →
   p = is_proxiable (command_flags s);
   e = is_error (command_flags s);
   t = is_retransmitted (command_flags s);
-  command_code = command_code s;
-  application = application s;
   hop_by_hop = hop_by_hop s;
   end_to_end = end_to_end s;
   count = n;

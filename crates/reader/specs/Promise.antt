@@ -1,18 +1,15 @@
 -- The promises of the reader: the verdict of a slice of octets, and what a lent log holds afterwards.
 use Rattle.std.specs.Prelude.{◌≡◌, ℕ, ◌≤◌, List, [], length}
-use Rattle.rules.specs.declared.Application.{Application}
-use Rattle.rules.specs.declared.Application.TheVariants.{Nt, Nta, Neither}
 use Rattle.rules.specs.declared.Avp.{Avp}
 use Rattle.rules.specs.declared.Verdict.{Verdict}
 use Rattle.rules.specs.declared.Outcome.{Outcome}
 use Rattle.rules.specs.declared.Outcome.TheVariants.{Pass, Refused}
 use Rattle.rules.specs.Verdict.{or_else, verdict_of}
-use Rattle.rules.specs.Header.{header_size}
-use Rattle.rules.specs.Dictionary.{Entry}
-use Rattle.rules.specs.Profile.{nt, nta}
+use Rattle.rules.specs.Header.{header_size, header_outcome}
+use Rattle.rules.specs.Dictionary.{Entry, dictionary}
 use Rattle.rules.specs.Walk.{most_avps, Walked, whole, stopped, avps_of}
-use Rattle.rules.specs.Command.{command_application, chosen, header_outcome, command_rules, walk_by, walk_of, command_outcome, command_verdict}
-use Rattle.dictionary.specs.Entries.{number_in}
+use Rattle.rules.specs.Command.{command_rules, walk_by, walk_of, command_outcome, command_verdict}
+use Rattle.dictionary.specs.Entries.{entry_of}
 use Rattle.dictionary.specs.Table.{IsTable, dictionary_by}
 use Rattle.walk_log.specs.Log.{put_all, avps_in}
 use Rattle.walk_log.specs.Families.{logged_from}
@@ -20,30 +17,8 @@ use Rattle.walk.specs.Answer.{count_of}
 use Rattle.walk.specs.Promise.{number_by}
 use Rattle.lists.specs.Exchanges.{lists_in}
 use Rattle.reader.specs.declared.Judgement.{Judgement}
-use Rattle.reader.specs.declared.header.Headed.{Headed}
-use Rattle.reader.specs.declared.header.Headed.TheVariants.{Passes, Fails}
 
--- what the header's checks hand back: the application, unless they refuse
-abbrev pub header_of : Outcome → Application → Headed
-header_of Pass application = Passes application
-header_of (Refused v) application = Fails v
-
--- a command of this application whose header passed
-pub record IsOf (application : Application) (s : List ℕ) : Type 0 where
-  pub passes : header_outcome s ≡ Pass
-  pub is : command_application s ≡ application
-
--- what judging gives to a refused header
-abbrev pub refused_judgement : Verdict → Judgement
-refused_judgement v = record { outcome = Refused v; count = 0 }
-
--- of two lent tables that of an application; no header of neither passes
-abbrev pub table_of : Application → List ℕ → List ℕ → List ℕ
-table_of Nt own other = own
-table_of Nta other own = own
-table_of Neither other own = own
-
--- ---- by a table of codes, whatever numbers it holds
+-- ---- by a table of plain codes, whatever numbers it holds
 
 -- a fault of the walk is the answer; else its lists by the log that it left
 abbrev pub walked_in : List ℕ → List ℕ → Walked → Outcome
@@ -70,26 +45,26 @@ abbrev pub count_by : List Entry → List ℕ → Outcome → ℕ
 count_by dict s Pass = count_of (walk_by dict s)
 count_by dict s (Refused v) = 0
 
--- what judging a command by a table gives; by the one of its application the outcome of its checks
+-- what judging a command by a table gives; by the right one document 01's outcome
 pub record IsJudgedBy (table s before : List ℕ) (r : Judgement) (after : List ℕ) : Type 0 where
   pub outcome : r.outcome ≡ outcome_in (dictionary_by table) s after
   pub counted : r.count ≡ count_by (dictionary_by table) s (header_outcome s)
   pub left : after ≡ log_after_by (dictionary_by table) (number_by table) s before
-  pub right : (header_outcome s ≡ Pass → IsTable (chosen s) table) → r.outcome ≡ command_outcome s
+  pub right : IsTable table → r.outcome ≡ command_outcome s
   pub long : r.outcome ≡ Pass → header_size ≤ length s
   pub few : r.outcome ≡ Pass → r.count ≤ most_avps
   pub avps : r.outcome ≡ Pass → avps_in after r.count ≡ avps_of (walk_by (dictionary_by table) s)
 
--- ---- by the dictionary of the command's application
+-- ---- by document 01's dictionary
 
 unfoldable pub log_after : List ℕ → List ℕ → List ℕ
-log_after s before = log_after_by (chosen s).entries (number_in (chosen s)) s before
+log_after s before = log_after_by dictionary (entry_of dictionary) s before
 
 -- what judging a command gives, and for an accepted one its AVPs
 pub record IsJudged (s before : List ℕ) (r : Judgement) (after : List ℕ) : Type 0 where
   pub outcome : r.outcome ≡ command_outcome s
   pub told : verdict_of r.outcome ≡ command_verdict s
-  pub counted : r.count ≡ count_by (chosen s).entries s (header_outcome s)
+  pub counted : r.count ≡ count_by dictionary s (header_outcome s)
   pub left : after ≡ log_after s before
   pub long : r.outcome ≡ Pass → header_size ≤ length s
   pub few : r.outcome ≡ Pass → r.count ≤ most_avps
@@ -106,10 +81,8 @@ pub record Judged (s before : List ℕ) (r : Verdict) (after : List ℕ) : Type 
   pub answer : r ≡ command_verdict s
   pub left : after ≡ log_after s before
 
--- what `verdict_by` gives; by the right tables the verdict, by others what the log that is left says
-pub record JudgedBy (nt-table nta-table s before : List ℕ) (r : Verdict) (after : List ℕ) : Type 0 where
-  pub answer : r ≡ verdict_of (outcome_in (dictionary_by (table_of (command_application s) nt-table nta-table)) s after)
-  pub left : after
-      ≡ log_after_by (dictionary_by (table_of (command_application s) nt-table nta-table))
-      (number_by (table_of (command_application s) nt-table nta-table)) s before
-  pub right : IsTable nt nt-table → IsTable nta nta-table → r ≡ command_verdict s
+-- what `verdict_by` gives; by the right table document 01's verdict, by another what the log that is left says
+pub record JudgedBy (table s before : List ℕ) (r : Verdict) (after : List ℕ) : Type 0 where
+  pub answer : r ≡ verdict_of (outcome_in (dictionary_by table) s after)
+  pub left : after ≡ log_after_by (dictionary_by table) (number_by table) s before
+  pub right : IsTable table → r ≡ command_verdict s

@@ -4,7 +4,7 @@ ghost use Rattle.rules.specs.Verdict.{verdict, verdict_of};
 ghost use Rattle.rules.specs.Record.{reading};
 ghost use Rattle.reader.specs.Promise.{IsJudged, Settled, Judged, JudgedBy};
 
-use dictionary::codes;
+use dictionary::plain;
 use rules::{Outcome, Reading, Verdict, limits};
 
 mod header;
@@ -63,17 +63,16 @@ pub fn verdict(s: &[u8], log: &mut [u32; limits::LOG_NUMBERS]) -> Verdict
     verdict_of(outcome(s, log))
 }
 
-// The same by a lent table of codes for each application, for a caller with many commands: the right ones, which
-// `dictionary::table_of` gives, are made once. What other tables give is stated too.
+// The same by a lent table of plain codes, for a caller with many commands: the right one, `dictionary::plain_table`,
+// is made once. What another table gives is stated too.
 pub fn verdict_by(
     s: &[u8],
-    nt: &[u8; codes::CODES],
-    nta: &[u8; codes::CODES],
+    table: &[u8; plain::PLAIN_CODES],
     log: &mut [u32; limits::LOG_NUMBERS],
 ) -> Verdict
-    ensures { JudgedBy nt.now nta.now s.now log.old result log.new }
+    ensures { JudgedBy table.now s.now log.old result log.new }
 {
-    let judged = judge::judge_by(s, nt, nta, log);
+    let judged = judge::judge_by(s, table, log);
     let outcome = judged.outcome;
     verdict_of(outcome)
 }

@@ -5,8 +5,9 @@ use Prim.Native.Nat.{ℕ}
 use Rattle.rules.specs.declared.Avp.{Avp}
 use Rattle.rules.specs.declared.Verdict.{Verdict}
 use Rattle.rules.specs.declared.Outcome.TheVariants.{Pass, Refused}
+use Rattle.rules.specs.Header.{header_outcome}
 use Rattle.rules.specs.Walk.{Walked, whole, stopped}
-use Rattle.rules.specs.Command.{walked_outcome_by, outcome_by, chosen, header_outcome, walk_of, lists_outcome, command_outcome}
+use Rattle.rules.specs.Command.{walk_of, lists_outcome, walked_outcome, command_outcome}
 use Rattle.rules.proofs.Outcomes.{both_pass}
 use Rattle.rules.proofs.Walk.{never}
 
@@ -17,18 +18,17 @@ pub record PassedCommand (s : List ℕ) : Type 0 where
   pub lists : lists_outcome s avps ≡ Pass
 
 -- a walk that stopped is the answer
-walk_stops : (s : List ℕ) (xs : List Avp) (v : Verdict) → walked_outcome_by (chosen s) s (stopped xs v) ≡ Refused v
+walk_stops : (s : List ℕ) (xs : List Avp) (v : Verdict) → walked_outcome s (stopped xs v) ≡ Refused v
 walk_stops s xs v = refl
 
-whole_walk : (s : List ℕ) (w : Walked) → walked_outcome_by (chosen s) s w ≡ Pass
+whole_walk : (s : List ℕ) (w : Walked) → walked_outcome s w ≡ Pass
     → (xs : List Avp) × (w ≡ whole xs) × (lists_outcome s xs ≡ Pass)
-unfolding lists_outcome
 whole_walk s (whole xs) e = (xs, refl, e)
 whole_walk s (stopped xs v) e = never (sym (walk_stops s xs v) ∙ e)
 
 pub passed_command : (s : List ℕ) → command_outcome s ≡ Pass → PassedCommand s
-unfolding command_outcome outcome_by header_outcome walk_of
+unfolding command_outcome
 passed_command s e =
-    let b = both_pass (header_outcome s) (walked_outcome_by (chosen s) s (walk_of s)) e in
+    let b = both_pass (header_outcome s) (walked_outcome s (walk_of s)) e in
     let w = whole_walk s (walk_of s) b.1 in
     record { header = b.0; avps = w.0; walk = w.1; lists = w.2 }

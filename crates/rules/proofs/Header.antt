@@ -8,9 +8,8 @@ use borrow.Author.Tests.{lt-ltb, le-ltb, eq-eqb, ne_eqb, ltb-true, ltb-false, eq
 use lib.Dec.{ltb, eqb}
 use lib.ListN.{length}
 use Rattle.rules.specs.declared.Outcome.TheVariants.{Pass}
-use Rattle.rules.specs.Verdict.{is_among, refused, or_else}
-use Rattle.rules.specs.Header.{header_size, version, length_field, command_code, application, is_request, is_proxiable, is_error, length_outcome, application_outcome, flags_outcome, header_by, command_flags, longest_command}
-use Rattle.rules.specs.Command.{chosen, header_outcome}
+use Rattle.rules.specs.Verdict.{refused, or_else}
+use Rattle.rules.specs.Header.{header_size, version, length_field, command_code, application, is_request, is_proxiable, is_error, length_outcome, application_outcome, flags_outcome, header_outcome, command_flags, application_nt, code_background_data_transfer, longest_command}
 use Rattle.rules.proofs.Outcomes.{both_pass}
 use Rattle.rules.proofs.Tests.{neither}
 use Rattle.rules.proofs.Walk.{by_cases, never}
@@ -58,20 +57,19 @@ module _ (s : List ℕ) where
             length-pass h =
                 rw (le-ltb (length s) 20 enough, eq-eqb (version s) 1 right, le-ltb (length_field s) 20 least, eq-eqb (length_field s % 4) 0 four, eq-eqb (length_field s) (length s) same, le-ltb 16384 (length_field s) h)
 
-module _ (applications codes s : List ℕ) where
-  pub application_other : is_among applications (application s) ≡ false
-      → application_outcome applications codes s ≡ refused 3007 8 0 0
+module _ (s : List ℕ) where
+  pub application_other : (application s ≡ 16777348 → ⊥) → application_outcome s ≡ refused 3007 8 0 0
   unfolding application_outcome
-  application_other h = rw h
+  application_other h = rw (ne_eqb (application s) 16777348 h)
 
-  module _ (one : is_among applications (application s) ≡ true) where
-    pub code_other : is_among codes (command_code s) ≡ false → application_outcome applications codes s ≡ refused 3001 5 0 0
+  module _ (nt : application s ≡ 16777348) where
+    pub code_other : (command_code s ≡ 8388723 → ⊥) → application_outcome s ≡ refused 3001 5 0 0
     unfolding application_outcome
-    code_other h = rw (one, h)
+    code_other h = rw (eq-eqb (application s) 16777348 nt, ne_eqb (command_code s) 8388723 h)
 
-    pub application_pass : is_among codes (command_code s) ≡ true → application_outcome applications codes s ≡ Pass
+    pub application_pass : command_code s ≡ 8388723 → application_outcome s ≡ Pass
     unfolding application_outcome
-    application_pass h = rw (one, h)
+    application_pass h = rw (eq-eqb (application s) 16777348 nt, eq-eqb (command_code s) 8388723 h)
 
 module _ (flags : ℕ) where
   pub flags_error_request : (is_request flags && is_error flags) ≡ true → flags_outcome flags ≡ refused 3008 4 0 0
@@ -102,36 +100,35 @@ pub record Headed (c : List ℕ) : Type 0 where
   pub field_is : length_field c ≡ length c
   pub four : length_field c % 4 ≡ 0
   pub within : length c ≤ 16384
-  pub application_known : is_among (chosen c).applications (application c) ≡ true
-  pub code_known : is_among (chosen c).codes (command_code c) ≡ true
+  pub application_is : application c ≡ application_nt
+  pub code_is : command_code c ≡ code_background_data_transfer
   pub flags_pass : flags_outcome (command_flags c) ≡ Pass
 
 pub headed : (c : List ℕ) → header_outcome c ≡ Pass → Headed c
-unfolding header_outcome header_by length_outcome application_outcome
+unfolding header_outcome length_outcome application_outcome
 headed c e =
-    let checked = application_outcome (chosen c).applications (chosen c).codes c in
-    let a = both_pass (length_outcome c) (or_else checked (flags_outcome (command_flags c))) e in
-    let b = both_pass checked (flags_outcome (command_flags c)) a.1 in
+    let a = both_pass (length_outcome c) (or_else (application_outcome c) (flags_outcome (command_flags c))) e in
+    let b = both_pass (application_outcome c) (flags_outcome (command_flags c)) a.1 in
     let enough = not_refused (ltb (length c) header_size) _ _ a.0 in
-    let first = not_refused (not (eqb (version c) 1)) _ _ enough.1 in
+    let one = not_refused (not (eqb (version c) 1)) _ _ enough.1 in
     let size = length_field c in
     let few = ltb size header_size in
     let uneven = not (eqb (size % 4) 0) in
     let unequal = not (eqb size (length c)) in
-    let field = not_refused (few || uneven || unequal) _ _ first.1 in
+    let field = not_refused (few || uneven || unequal) _ _ one.1 in
     let long = not_refused (ltb longest_command size) _ _ field.1 in
-    let one = not_refused (not (is_among (chosen c).applications (application c))) _ _ b.0 in
-    let code = not_refused (not (is_among (chosen c).codes (command_code c))) _ _ one.1 in
+    let nt = not_refused (not (eqb (application c) application_nt)) _ _ b.0 in
+    let code = not_refused (not (eqb (command_code c) code_background_data_transfer)) _ _ nt.1 in
     let whole = neither (few || uneven) unequal field.0 in
     let four = neither few uneven whole.0 in
     let same = eqb-true size (length c) (not-false _ whole.1) in
     record {
       enough = ltb-false _ _ enough.0;
-      version_is = eqb-true _ _ (not-false _ first.0);
+      version_is = eqb-true _ _ (not-false _ one.0);
       field_is = same;
       four = eqb-true _ _ (not-false _ four.1);
       within = omega (arith, ltb-false longest_command size long.0);
-      application_known = not-false _ one.0;
-      code_known = not-false _ code.0;
+      application_is = eqb-true _ _ (not-false _ nt.0);
+      code_is = eqb-true _ _ (not-false _ code.0);
       flags_pass = b.1;
     }

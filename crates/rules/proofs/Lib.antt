@@ -14,8 +14,6 @@ pub mod Header
 pub mod Writer
 pub mod Commands
 pub mod Steps
--- which profile a number chooses, and what the demands need of one
-pub mod Profiles
 pub mod Searches
 pub mod BookLines
 -- the user's demands as theorems over the definitions

@@ -3,9 +3,10 @@
 use mathlib.Core.Path.{◌≡◌, sym, ◌∙◌}
 use mathlib.Core.Bool.{true}
 use lib.ListN.{length}
+use Rattle.rules.specs.Dictionary.{dictionary}
 use Rattle.rules.specs.Record.{recorded}
 use Rattle.rules.specs.Wire.{list_octets}
-use Rattle.rules.specs.Draft.{Draft, draft_dictionary, cells_of, members_size, is_well_formed}
+use Rattle.rules.specs.Draft.{Draft, cells_of, members_size, is_well_formed}
 use Rattle.rules.proofs.demands.items.Trees.{tree_over, over_deep, under_all}
 use Rattle.rules.proofs.demands.items.Members.{members_under}
 use Rattle.rules.proofs.demands.written.Drafts.{placed_long, well_formed}
@@ -15,6 +16,6 @@ pub draft_long : (d : Draft) → is_well_formed d ≡ true → length (list_octe
 draft_long d form =
     let w = well_formed d form in
     let cs = cells_of d in
-    placed_long (draft_dictionary d) d.octets (recorded d.«record») w.placed_all w.sizes
-    ∙ sym (members_under (draft_dictionary d) cs 0 w.tree w.sizes
-    ∙ under_all (draft_dictionary d) cs (over_deep 0 cs (tree_over (draft_dictionary d) cs 1 w.tree)))
+    placed_long dictionary d.octets (recorded d.«record») w.placed_all w.sizes
+    ∙ sym (members_under dictionary cs 0 w.tree w.sizes
+    ∙ under_all dictionary cs (over_deep 0 cs (tree_over dictionary cs 1 w.tree)))

@@ -13,9 +13,9 @@ use Rattle.rules.specs.declared.Avp.{Avp}
 use Rattle.rules.specs.declared.Checked.{Checked}
 use Rattle.rules.specs.declared.Checked.TheVariants.{Fault, Plain, Group}
 use Rattle.rules.specs.Header.{header_size}
-use Rattle.rules.specs.Dictionary.{Entry}
+use Rattle.rules.specs.Dictionary.{Entry, dictionary}
 use Rattle.rules.specs.Walk.{Standing, checked, Walked, whole, stopped, after, and_then, in_group, behind, walk_avp, walk_list}
-use Rattle.rules.specs.Command.{command_verdict, own_list, chosen, walk_of}
+use Rattle.rules.specs.Command.{command_verdict, own_list, walk_of}
 use Rattle.rules.specs.Lines.{command_line}
 use Rattle.rules.specs.Book.{head_line, length_of, is_cut, command_in, acceptance, lines_from, book_head, is_book, listing}
 use Rattle.rules.proofs.Tests.{neither}
@@ -73,9 +73,9 @@ walk_steps dict s (suc n) zero w h k = list_end (suc n) dict s w (omega arith) �
 walk_steps dict s (suc n) (suc m) w h k = more_same dict s n m (walk_steps dict s n m) w h k
 
 -- the walk of a command, with any number of steps from its length on
-pub command_steps : (s : List ℕ) (n : ℕ) → length s ≤ n → walk_of s ≡ walk_list n (chosen s).entries s (own_list s)
+pub command_steps : (s : List ℕ) (n : ℕ) → length s ≤ n → walk_of s ≡ walk_list n dictionary s (own_list s)
 unfolding walk_of
-command_steps s n h = walk_steps (chosen s).entries s (length s) n (own_list s) (omega arith) (omega arith)
+command_steps s n h = walk_steps dictionary s (length s) n (own_list s) (omega arith) (omega arith)
 
 -- ---- the lines of a listing
 

@@ -1,19 +1,17 @@
 -- The writer at the edges, computed: for each condition of 7006, in 01's order, drafts that meet it and drafts that do
 -- not; and the octets of a command.
 use mathlib.Core.Path.{◌≡◌, refl}
-use Prim.Native.Nat.{ℕ, ◌+◌, ◌-◌, ◌^◌}
+use Prim.Native.Nat.{ℕ, ◌-◌, ◌^◌}
 use mathlib.Core.List.{List, [], ◌∷◌, map}
 use mathlib.Core.Bool.{Bool, true, false}
 use lib.ListN.{length, replicate}
 use Rattle.rules.specs.declared.Avp.{Avp}
 use Rattle.rules.specs.Octets.{octets, padded}
-use Rattle.rules.specs.Header.{code_background_data_transfer, application_nt, application_nta, vendor_3gpp}
-use Rattle.rules.specs.Dictionary.{dictionary, added_nta, find}
+use Rattle.rules.specs.Dictionary.{dictionary, find}
 use Rattle.rules.specs.Record.{in_room}
 use Rattle.rules.specs.Meaning.{Cell, Meaning}
 use Rattle.rules.specs.Wire.{avp_flags, avp_header, avp_octets, list_octets, flags_octet, command_header, command_octets}
-use Rattle.rules.specs.Draft.{Draft, is_blank, all_blank, is_placed, all_placed, is_tree, members_size, has_sizes, command_fits, identifiers_fit, name_fits, names_fit, is_well_formed}
-use Rattle.rules.specs.Profile.{application_of}
+use Rattle.rules.specs.Draft.{Draft, is_blank, all_blank, is_placed, all_placed, is_tree, members_size, has_sizes, identifiers_fit, name_fits, names_fit, is_well_formed}
 
 -- an AVP by its fields
 abbrev place : ℕ → ℕ → ℕ → Bool → Bool → ℕ → ℕ → Avp
@@ -24,17 +22,14 @@ place depth vendor code m p start length =
 abbrev avp : ℕ → ℕ → ℕ → ℕ → Avp
 avp depth code start length = place depth 0 code false false start length
 
--- a draft over four octets, with this command code and application, these identifiers, this count, and these AVPs in
--- its first places
-abbrev draft_with : ℕ → ℕ → ℕ → ℕ → ℕ → List Avp → Draft
-draft_with code application hop end count xs = record {
+-- a draft over four octets, with these identifiers, this count, and these AVPs in its first places
+abbrev draft : ℕ → ℕ → ℕ → List Avp → Draft
+draft hop end count xs = record {
   «record» = record {
     r = true;
     p = true;
     e = false;
     t = false;
-    command_code = code;
-    application = application;
     hop_by_hop = hop;
     end_to_end = end;
     count = count;
@@ -42,10 +37,6 @@ draft_with code application hop end count xs = record {
   };
   octets = replicate 4 7;
 }
-
--- one of Nt
-abbrev draft : ℕ → ℕ → ℕ → List Avp → Draft
-draft hop end count xs = draft_with code_background_data_transfer application_nt hop end count xs
 
 -- whose count is that of its AVPs
 abbrev of : List Avp → Draft
@@ -74,7 +65,7 @@ counts =
     bad (draft 1 2 257 (replicate 256 (avp 1 33 0 0))) ∷ []
 
 pub counts_said : AsSaid counts
-unfolding counts padded dictionary find is_blank all_blank is_placed all_placed is_tree members_size has_sizes command_fits identifiers_fit name_fits names_fit is_well_formed application_of
+unfolding counts padded dictionary find is_blank all_blank is_placed all_placed is_tree members_size has_sizes identifiers_fit name_fits names_fit is_well_formed
 counts_said = refl
 
 -- an unused place is all 0: one field is not
@@ -89,7 +80,7 @@ unused =
     bad (draft 1 2 0 (place 0 0 0 false false 0 1 ∷ [])) ∷ []
 
 pub unused_said : AsSaid unused
-unfolding unused padded dictionary find is_blank all_blank is_placed all_placed is_tree members_size has_sizes command_fits identifiers_fit name_fits names_fit is_well_formed application_of
+unfolding unused padded dictionary find is_blank all_blank is_placed all_placed is_tree members_size has_sizes identifiers_fit name_fits names_fit is_well_formed
 unused_said = refl
 
 -- a data part lies in the octets: one of length 0 may start at their end; a read group's start is free
@@ -102,7 +93,7 @@ parts =
     good (of (avp 1 284 5 0 ∷ [])) ∷ []
 
 pub parts_said : AsSaid parts
-unfolding parts padded dictionary find is_blank all_blank is_placed all_placed is_tree members_size has_sizes command_fits identifiers_fit name_fits names_fit is_well_formed application_of
+unfolding parts padded dictionary find is_blank all_blank is_placed all_placed is_tree members_size has_sizes identifiers_fit name_fits names_fit is_well_formed
 parts_said = refl
 
 -- depths: 0; 2 first; deeper after no read group; deeper by two; a read group at 4; an AVP at 5
@@ -116,7 +107,7 @@ trees =
     bad (of (avp 1 284 0 32 ∷ avp 2 284 0 24 ∷ avp 3 284 0 16 ∷ avp 4 284 0 8 ∷ avp 5 33 0 0 ∷ [])) ∷ []
 
 pub trees_said : AsSaid trees
-unfolding trees padded dictionary find is_blank all_blank is_placed all_placed is_tree members_size has_sizes command_fits identifiers_fit name_fits names_fit is_well_formed application_of
+unfolding trees padded dictionary find is_blank all_blank is_placed all_placed is_tree members_size has_sizes identifiers_fit name_fits names_fit is_well_formed
 trees_said = refl
 
 -- lengths: with the last member's padding and without; of a member with vendor; of a group in a group
@@ -128,56 +119,12 @@ sizes =
     good (of (avp 1 284 0 32 ∷ avp 2 284 0 12 ∷ avp 3 33 0 1 ∷ avp 2 33 0 1 ∷ [])) ∷ []
 
 pub sizes_said : AsSaid sizes
-unfolding sizes padded dictionary find is_blank all_blank is_placed all_placed is_tree members_size has_sizes command_fits identifiers_fit name_fits names_fit is_well_formed application_of
+unfolding sizes padded dictionary find is_blank all_blank is_placed all_placed is_tree members_size has_sizes identifiers_fit name_fits names_fit is_well_formed
 sizes_said = refl
 
--- 02, [12]: the application says which AVPs are read groups, whatever the command code is
-abbrev under : ℕ → List Avp → Draft
-under application xs = draft_with code_background_data_transfer application 1 2 (length xs) xs
-
--- 4215 is one in Nta alone: its length is that of its members; else its data part lies in the octets, without members
-abbrev reports : ℕ → List Avp → List Avp
-reports length xs = place 1 vendor_3gpp 4215 true false 0 length ∷ xs
-
-abbrev reported : Avp
-reported = place 2 vendor_3gpp 4214 true false 0 4
-
-unfoldable pub groups : List Form
-groups =
-    good (under application_nta (reports 16 (reported ∷ []))) ∷
-    bad (under application_nta (reports 4 [])) ∷
-    bad (under application_nt (reports 16 (reported ∷ []))) ∷
-    bad (under application_nt (reports 4 (reported ∷ []))) ∷
-    good (under application_nt (reports 4 [])) ∷
-    good (under application_nta (avp 1 284 5 0 ∷ [])) ∷ []
-
-pub groups_said : AsSaid groups
-unfolding groups padded dictionary added_nta find is_blank all_blank is_placed all_placed is_tree members_size has_sizes command_fits identifiers_fit name_fits names_fit is_well_formed application_of
-groups_said = refl
-
--- neither application has any, so all data parts lie in the octets, whatever their lengths, and every depth is 1; the
--- empty record is such a draft
-abbrev of_neither : List Avp → Draft
-of_neither xs = under (application_nt + 1) xs
-
-unfoldable pub neithers : List Form
-neithers =
-    good (draft_with 0 0 0 0 0 []) ∷
-    good (of_neither (avp 1 284 0 4 ∷ avp 1 33 4 0 ∷ [])) ∷
-    bad (of_neither (avp 1 284 5 0 ∷ [])) ∷
-    bad (of_neither (avp 1 284 0 8 ∷ avp 2 33 0 0 ∷ [])) ∷
-    bad (of_neither (avp 1 284 0 4 ∷ avp 2 33 0 0 ∷ [])) ∷ []
-
-pub neithers_said : AsSaid neithers
-unfolding neithers padded dictionary find is_blank all_blank is_placed all_placed is_tree members_size has_sizes command_fits identifiers_fit name_fits names_fit is_well_formed application_of
-neithers_said = refl
-
--- what fits the wire: command code, application, identifiers, vendor, code
+-- what fits the wire: identifiers, vendor, code
 unfoldable pub wire : List Form
 wire =
-    good (draft_with (2 ^ 24 - 1) (2 ^ 32 - 1) 0 0 0 []) ∷
-    bad (draft_with (2 ^ 24) application_nt 0 0 0 []) ∷
-    bad (draft_with code_background_data_transfer (2 ^ 32) 0 0 0 []) ∷
     good (draft (2 ^ 32 - 1) (2 ^ 32 - 1) 1 (place 1 (2 ^ 32 - 1) (2 ^ 32 - 1) false false 0 0 ∷ [])) ∷
     bad (draft (2 ^ 32) 0 0 []) ∷
     bad (draft 0 (2 ^ 32) 0 []) ∷
@@ -185,7 +132,7 @@ wire =
     bad (of (place 1 0 (2 ^ 32) false false 0 0 ∷ [])) ∷ []
 
 pub wire_said : AsSaid wire
-unfolding wire padded dictionary find is_blank all_blank is_placed all_placed is_tree members_size has_sizes command_fits identifiers_fit name_fits names_fit is_well_formed application_of
+unfolding wire padded dictionary find is_blank all_blank is_placed all_placed is_tree members_size has_sizes identifiers_fit name_fits names_fit is_well_formed
 wire_said = refl
 
 -- ---- octets
@@ -200,8 +147,6 @@ meaning r p e t cells = record {
   p = p;
   e = e;
   t = t;
-  code = 8388723;
-  application = 16777348;
   hop_by_hop = 1;
   end_to_end = 2;
   count = length cells;

@@ -34,8 +34,6 @@ pub mod Times
 pub mod Windows
 -- request [1]: answers with E
 pub mod ErrorAnswers
--- request [12]: the applications
-pub mod Applications
 -- what a listing tells of a book
 pub mod Listings
 pub mod Examples

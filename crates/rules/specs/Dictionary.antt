@@ -9,8 +9,8 @@ use Rattle.rules.specs.declared.Definition.TheVariants.{Known, Unknown}
 use Rattle.rules.specs.declared.Members.{Members}
 use Rattle.rules.specs.declared.Members.TheVariants.{Under, NoMembers}
 use Rattle.rules.specs.declared.Grammar.{Grammar}
-use Rattle.rules.specs.Header.{code_background_data_transfer, code_event_configuration, code_event_reporting, vendor_3gpp}
-use Rattle.rules.specs.declared.Grammar.TheVariants.{Request, Answer, ErrorAnswer, VendorSpecificApplicationId, ExperimentalResult, ProxyInfo, SupportedFeatures, TimeWindow, TransferPolicy, EventConfigurationRequest, EventReportingRequest, EventAnswer, EventReports}
+use Rattle.rules.specs.Header.{code_background_data_transfer, vendor_3gpp}
+use Rattle.rules.specs.declared.Grammar.TheVariants.{Request, Answer, ErrorAnswer, VendorSpecificApplicationId, ExperimentalResult, ProxyInfo, SupportedFeatures, TimeWindow, TransferPolicy}
 
 -- an entry: the name, whether M must be set, and the form of the data
 pub record Entry : Type 0 where
@@ -49,16 +49,6 @@ dictionary =
     ++ entries vendor_3gpp true Any (4201 ∷ 4202 ∷ [])
     ++ entries vendor_3gpp true (Group TimeWindow) (4204 ∷ [])
     ++ entries vendor_3gpp true (Group TransferPolicy) (4207 ∷ [])
-
--- 02, [12]: that of the Nta application has these as well: 3GPP, M
-unfoldable pub added_nta : List Entry
-added_nta =
-    entries vendor_3gpp true Any (4210 ∷ 4211 ∷ 4213 ∷ [])
-    ++ entries vendor_3gpp true (Fixed 4) (4212 ∷ 4214 ∷ 4216 ∷ [])
-    ++ entries vendor_3gpp true (Group EventReports) (4215 ∷ [])
-
-abbrev pub dictionary_nta : List Entry
-dictionary_nta = dictionary ++ added_nta
 
 -- what a dictionary says of a vendor and a code
 unfoldable pub find : List Entry → ℕ → ℕ → Definition
@@ -110,8 +100,7 @@ fits_width (Known m form) length = fits_form form length
 fits_width Unknown length = true
 
 -- beyond 01: a list by a number, so that an answer that names a list is told by one. It is the code of the group, for a
--- command's own list that of the command, for the answers of Nta that of configuration, for an answer with E that of
--- Nt; no group's members go by a command's rows
+-- command's own list that of the command; no group's members go by a command's rows
 abbrev pub list_number : Grammar → ℕ
 list_number Request = code_background_data_transfer
 list_number Answer = code_background_data_transfer
@@ -122,10 +111,6 @@ list_number ProxyInfo = 284
 list_number SupportedFeatures = 628
 list_number TimeWindow = 4204
 list_number TransferPolicy = 4207
-list_number EventConfigurationRequest = code_event_configuration
-list_number EventReportingRequest = code_event_reporting
-list_number EventAnswer = code_event_configuration
-list_number EventReports = 4215
 
 -- the number of the list by whose rows members go, 0 for no members
 abbrev pub rows_number : Members → ℕ

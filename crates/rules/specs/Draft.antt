@@ -5,8 +5,7 @@ use Rattle.rules.specs.declared.Avp.{Avp}
 use Rattle.rules.specs.declared.Record.{Record}
 use Rattle.rules.specs.Octets.{padded}
 use Rattle.rules.specs.Avp.{header_of, end_of}
-use Rattle.rules.specs.Dictionary.{Entry}
-use Rattle.rules.specs.Profile.{dictionary_of}
+use Rattle.rules.specs.Dictionary.{Entry, dictionary}
 use Rattle.rules.specs.Walk.{most_avps, deepest}
 use Rattle.rules.specs.Record.{reading, recorded}
 use Rattle.rules.specs.Meaning.{Cell, Meaning, is_read_group, cell_of, meaning_over}
@@ -24,12 +23,8 @@ draft_of r s = record { «record» = r; octets = s }
 abbrev pub own_draft : List ℕ → Draft
 own_draft c = draft_of (reading c).«record» c
 
--- the dictionary by which its groups are read: that of its application, empty for neither (02, [12])
-abbrev pub draft_dictionary : Draft → List Entry
-draft_dictionary d = dictionary_of d.«record».application
-
 abbrev pub cells_of : Draft → List Cell
-cells_of d = map (cell_of (draft_dictionary d) d.octets) (recorded d.«record»)
+cells_of d = map (cell_of dictionary d.octets) (recorded d.«record»)
 
 -- its meaning, from its record and its octets as they stand at its call
 abbrev pub draft_meaning : Draft → Meaning
@@ -92,10 +87,6 @@ has_sizes dict [] = true
 has_sizes dict (c ∷ cs) =
     cond (is_read_group dict c.vendor c.code) (eqb c.length (members_size (c.depth + 1) cs)) true && has_sizes dict cs
 
--- 02, [12]: a command code of three octets, and an application of four
-unfoldable pub command_fits : Record → Bool
-command_fits r = ltb r.command_code (2 ^ 24) && ltb r.application (2 ^ 32)
-
 -- identifiers, and vendors and codes, of four octets
 unfoldable pub identifiers_fit : Record → Bool
 identifiers_fit r = ltb r.hop_by_hop (2 ^ 32) && ltb r.end_to_end (2 ^ 32)
@@ -107,9 +98,9 @@ unfoldable pub names_fit : List Avp → Bool
 names_fit [] = true
 names_fit (a ∷ xs) = name_fits a && names_fit xs
 
--- each of them fits its place on the wire; a flag is a Bool, which fits its bit
+-- each identifier, vendor and code fits its place on the wire; a flag is a Bool, which fits its bit
 abbrev pub fits_wire : Record → Bool
-fits_wire r = command_fits r && identifiers_fit r && names_fit (recorded r)
+fits_wire r = identifiers_fit r && names_fit (recorded r)
 
 -- a draft that is not 7006
 unfoldable pub is_well_formed : Draft → Bool
@@ -117,7 +108,7 @@ is_well_formed d =
     has_room d.«record»
     && count_fits d.«record»
     && unused_blank d.«record»
-    && all_placed (draft_dictionary d) (length d.octets) (recorded d.«record»)
-    && is_tree 1 (draft_dictionary d) (cells_of d)
-    && has_sizes (draft_dictionary d) (cells_of d)
+    && all_placed dictionary (length d.octets) (recorded d.«record»)
+    && is_tree 1 dictionary (cells_of d)
+    && has_sizes dictionary (cells_of d)
     && fits_wire d.«record»

@@ -8,28 +8,23 @@ use Rattle.rules.specs.declared.Verdict.{Verdict}
 use Rattle.rules.specs.Octets.{number_at, padded, octets}
 use Rattle.rules.specs.Text.{text}
 use Rattle.rules.specs.Verdict.{verdict}
-use Rattle.rules.specs.Header.{application_nt, code_background_data_transfer, vendor_3gpp, length_outcome, application_outcome, flags_outcome, header_by}
+use Rattle.rules.specs.Header.{application_nt, code_background_data_transfer, vendor_3gpp, length_outcome, application_outcome, flags_outcome, header_outcome}
 use Rattle.rules.specs.Avp.{avp_at}
 use Rattle.rules.specs.Rows.{rows_of, admits_others}
 use Rattle.rules.specs.Dictionary.{dictionary, find}
-use Rattle.rules.specs.Profile.{rules_nt, application_of}
 use Rattle.rules.specs.Walk.{framing, wrong_flags, unsupported, wrong_width, wrong_value, too_deep, contents, checked, walk_avp, walk_list}
 use Rattle.rules.specs.RowChecks.{admission_from, member_outcome, missing_from, members_outcome, members_at, groups_outcome, rows_outcome}
 use Rattle.rules.specs.Search.{positions_from}
 use Rattle.rules.specs.Times.{moment, is_before, seconds}
 use Rattle.rules.specs.Exchange.{direction, volume, total_alone, first_request, later_request, request_outcome, result_outcome, policies_outcome, policy_in, policies_at, answer_outcome, window_in, each_window, exchange_by}
-use Rattle.rules.specs.Command.{lists_outcome_by, outcome_by, header_outcome, walk_of, command_outcome, command_verdict}
+use Rattle.rules.specs.Command.{rules_by, walk_of, lists_outcome, command_outcome, command_verdict}
 use Rattle.rules.specs.Lines.{digits}
 use Rattle.rules.specs.Book.{is_cut, lines_from, is_book, listing}
 
--- a header with this version, length field, command flags, command code and application; the identifiers are 1 and 2
-unfoldable pub header_with : ℕ → ℕ → ℕ → ℕ → ℕ → List ℕ
-header_with version length flags code application =
-    version ∷ octets 3 length ++ (flags ∷ octets 3 code) ++ octets 4 application ++ octets 4 1 ++ octets 4 2
-
--- with Nt's command code
-abbrev pub header : ℕ → ℕ → ℕ → ℕ → List ℕ
-header version length flags application = header_with version length flags code_background_data_transfer application
+-- a header with this version, length field, command flags and application; the identifiers are 1 and 2
+unfoldable pub header : ℕ → ℕ → ℕ → ℕ → List ℕ
+header version length flags application =
+    version ∷ octets 3 length ++ (flags ∷ octets 3 code_background_data_transfer) ++ octets 4 application ++ octets 4 1 ++ octets 4 2
 
 -- H, and H's header for a request and for an answer of another length
 unfoldable pub h : List ℕ
@@ -323,7 +318,7 @@ listings bs = map (λ b. listing b.octets) bs
 computed : (verdicts cases ≡ answers cases) × (verdicts further ≡ answers further) × (verdicts totals ≡ answers totals)
     × (verdicts windowed ≡ answers windowed) × (verdicts policied ≡ answers policied)
     × (listing book ≡ book_listing) × (listings further_books ≡ expected further_books)
-unfolding head_of_book book_case further_books expected listings verdicts answers cases case header_with h avp avp_of_3gpp s_begins vendor_id s_goes_on s_ends s_front s further totals windowed window_of provider number_of_ues volume_of first_request_of answer_begins answer_of reference address policy_of rating policy proxy_of policied book book_listing octets number_at padded length_outcome application_outcome flags_outcome header_by avp_at rows_of admits_others dictionary find framing wrong_flags unsupported wrong_width wrong_value too_deep contents checked walk_avp walk_list admission_from member_outcome missing_from members_outcome members_at groups_outcome rows_outcome positions_from direction volume total_alone first_request later_request request_outcome result_outcome policies_outcome policy_in policies_at answer_outcome moment is_before window_in each_window exchange_by rules_nt application_of lists_outcome_by outcome_by header_outcome walk_of command_outcome command_verdict digits is_cut lines_from is_book listing
+unfolding head_of_book book_case further_books expected listings verdicts answers cases case header h avp avp_of_3gpp s_begins vendor_id s_goes_on s_ends s_front s further totals windowed window_of provider number_of_ues volume_of first_request_of answer_begins answer_of reference address policy_of rating policy proxy_of policied book book_listing octets number_at padded length_outcome application_outcome flags_outcome header_outcome avp_at rows_of admits_others dictionary find framing wrong_flags unsupported wrong_width wrong_value too_deep contents checked walk_avp walk_list admission_from member_outcome missing_from members_outcome members_at groups_outcome rows_outcome positions_from direction volume total_alone first_request later_request request_outcome result_outcome policies_outcome policy_in policies_at answer_outcome moment is_before window_in each_window exchange_by rules_by walk_of lists_outcome command_outcome command_verdict digits is_cut lines_from is_book listing
 computed = (refl, refl, refl, refl, refl, refl, refl)
 
 -- each marked case has its answer

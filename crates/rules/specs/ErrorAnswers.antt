@@ -9,25 +9,20 @@ use Rattle.rules.specs.declared.Grammar.TheVariants.{Request, Answer, ErrorAnswe
 use Rattle.rules.specs.declared.ExchangeRules.TheVariants.{OfRequest, OfAnswer, WindowsAlone}
 use Rattle.rules.specs.Octets.{octets, number_at, padded}
 use Rattle.rules.specs.Verdict.{refused}
-use Rattle.rules.specs.Header.{vendor_3gpp, application_nt, command_flags, is_request, is_proxiable, is_error, length_outcome, application_outcome, flags_outcome, header_by}
+use Rattle.rules.specs.Header.{vendor_3gpp, application_nt, command_flags, is_request, is_proxiable, is_error, length_outcome, application_outcome, flags_outcome, header_outcome}
 use Rattle.rules.specs.Avp.{avp_at}
-use Rattle.rules.specs.Dictionary.{Entry, dictionary, added_nta, dictionary_nta, find}
-use Rattle.rules.specs.Profile.{rules_nt, application_of}
+use Rattle.rules.specs.Dictionary.{Entry, dictionary, find}
 use Rattle.rules.specs.Rows.{rows_of, admits_others}
 use Rattle.rules.specs.Walk.{whole, framing, wrong_flags, unsupported, wrong_width, wrong_value, too_deep, contents, checked, walk_avp, walk_list}
 use Rattle.rules.specs.RowChecks.{admission_from, admission, member_outcome, missing_from, members_outcome, members_at, list_outcome, groups_outcome, rows_outcome}
 use Rattle.rules.specs.Times.{moment, is_before}
 use Rattle.rules.specs.Exchange.{result_outcome, policies_outcome, policies_at, answer_outcome, window_in, each_window, exchange_by}
 use Rattle.rules.specs.Search.{positions_from}
-use Rattle.rules.specs.Command.{lists_outcome_by, outcome_by, chosen, IsNt, header_outcome, command_rules, walk_of, command_outcome, command_verdict}
+use Rattle.rules.specs.Command.{rules_by, command_rules, walk_of, lists_outcome, command_outcome, command_verdict}
 use Rattle.rules.specs.Windows.{AllRight}
-use Rattle.rules.specs.Edges.{header, header_with, avp, avp_of_3gpp, letter, vendor_id, answer_begins, window_of, policy_of, proxy_of, Case, case, answers, verdicts}
+use Rattle.rules.specs.Edges.{header, avp, avp_of_3gpp, letter, vendor_id, answer_begins, window_of, policy_of, proxy_of, Case, case, answers, verdicts}
 
 -- ---- what is claimed
-
--- its application and its command code pass
-abbrev pub Known : List ℕ → Type 0
-Known c = application_outcome (chosen c).applications (chosen c).codes c ≡ Pass
 
 -- the header of a command whose length, version, application and command code pass, by its command flags
 pub record FlagsJudged (c : List ℕ) : Type 0 where
@@ -42,7 +37,7 @@ pub record FlagsJudged (c : List ℕ) : Type 0 where
   -- P set without E
   pub proxiable : is_proxiable (command_flags c) ≡ true → is_error (command_flags c) ≡ false → header_outcome c ≡ Pass
 
--- what a command of Nt is judged by, of each kind
+-- what a command is judged by, of each kind
 pub record KindsJudged (c : List ℕ) : Type 0 where
   pub request : is_request (command_flags c) ≡ true → command_rules c ≡ record { rows = Request; exchange = OfRequest }
   pub answer : is_request (command_flags c) ≡ false → is_error (command_flags c) ≡ false
@@ -50,11 +45,10 @@ pub record KindsJudged (c : List ℕ) : Type 0 where
   pub error_answer_lem : is_request (command_flags c) ≡ false → is_error (command_flags c) ≡ true
       → command_rules c ≡ record { rows = ErrorAnswer; exchange = WindowsAlone }
 
--- an answer of Nt with E whose length, version and command code pass
+-- an answer with E whose length, version, application and command code pass
 pub record IsErrorAnswer (c : List ℕ) : Type 0 where
-  pub of_nt : IsNt c
   pub long : length_outcome c ≡ Pass
-  pub known : Known c
+  pub known : application_outcome c ≡ Pass
   pub not_request : is_request (command_flags c) ≡ false
   pub with_error : is_error (command_flags c) ≡ true
 
@@ -62,7 +56,7 @@ pub record IsErrorAnswer (c : List ℕ) : Type 0 where
 pub record MeetsGeneralForm (c : List ℕ) (xs : List Avp) : Type 0 where
   pub walk : walk_of c ≡ whole xs
   pub own : list_outcome ErrorAnswer 1 (length c) xs ≡ Pass
-  pub groups : groups_outcome (chosen c).entries xs ≡ Pass
+  pub groups : groups_outcome dictionary xs ≡ Pass
   pub windows : AllRight c xs
 
 -- ---- such answers, computed
@@ -169,9 +163,9 @@ codes_with_row [] = []
 codes_with_row (e ∷ es) = cond (has_row e) (e.code ∷ codes_with_row es) (codes_with_row es)
 
 -- these ten; every other name is one of the others, in any number
-pub rows_of_general_form : codes_with_row dictionary_nta
+pub rows_of_general_form : codes_with_row dictionary
     ≡ (268 ∷ 278 ∷ 263 ∷ 264 ∷ 296 ∷ 279 ∷ 281 ∷ 294 ∷ 297 ∷ 284 ∷ [])
-unfolding codes_with_row dictionary added_nta rows_of admission_from
+unfolding codes_with_row dictionary rows_of admission_from
 rows_of_general_form = refl
 
 -- what request [1] leaves as it is
@@ -212,7 +206,7 @@ unmoved =
 
 -- each has its answer
 computed : (verdicts erred ≡ answers erred) × (verdicts unmoved ≡ answers unmoved)
-unfolding verdicts answers case header_with avp avp_of_3gpp vendor_id answer_begins window_of policy_of proxy_of with_flags session host realm result three state message reporter failed experimental erred unmoved octets number_at padded length_outcome application_outcome flags_outcome header_by avp_at rows_of admits_others dictionary find framing wrong_flags unsupported wrong_width wrong_value too_deep contents checked walk_avp walk_list admission_from member_outcome missing_from members_outcome members_at groups_outcome rows_outcome positions_from result_outcome policies_outcome policies_at answer_outcome moment is_before window_in each_window exchange_by rules_nt application_of lists_outcome_by outcome_by header_outcome walk_of command_outcome command_verdict
+unfolding verdicts answers case header avp avp_of_3gpp vendor_id answer_begins window_of policy_of proxy_of with_flags session host realm result three state message reporter failed experimental erred unmoved octets number_at padded length_outcome application_outcome flags_outcome header_outcome avp_at rows_of admits_others dictionary find framing wrong_flags unsupported wrong_width wrong_value too_deep contents checked walk_avp walk_list admission_from member_outcome missing_from members_outcome members_at groups_outcome rows_outcome positions_from result_outcome policies_outcome policies_at answer_outcome moment is_before window_in each_window exchange_by rules_by walk_of lists_outcome command_outcome command_verdict
 computed = (refl, refl)
 
 pub error_edges : verdicts erred ≡ answers erred

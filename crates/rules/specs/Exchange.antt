@@ -7,7 +7,7 @@ use Rattle.rules.specs.declared.Avp.{Avp}
 use Rattle.rules.specs.declared.Outcome.{Outcome}
 use Rattle.rules.specs.declared.Outcome.TheVariants.{Pass}
 use Rattle.rules.specs.declared.ExchangeRules.{ExchangeRules}
-use Rattle.rules.specs.declared.ExchangeRules.TheVariants.{OfRequest, OfAnswer, WindowsAlone, NoRules}
+use Rattle.rules.specs.declared.ExchangeRules.TheVariants.{OfRequest, OfAnswer, WindowsAlone}
 use Rattle.rules.specs.declared.Found.{Found}
 use Rattle.rules.specs.declared.Found.TheVariants.{At, Nothing}
 use Rattle.rules.specs.Octets.{number_at}
@@ -160,19 +160,11 @@ abbrev pub by_command : (ℕ → ℕ → Found) → ExchangeRules → List Avp �
 by_command find OfRequest xs s end number policies = request_outcome find xs s end
 by_command find OfAnswer xs s end number policies = answer_outcome find xs end number policies
 by_command find WindowsAlone xs s end number policies = Pass
-by_command find NoRules xs s end number policies = Pass
-
--- the window rule, given what is said of the windows: with no rules at all it does not apply either (02, [12])
-abbrev pub windows_by : ExchangeRules → Outcome → Outcome
-windows_by OfRequest windows = windows
-windows_by OfAnswer windows = windows
-windows_by WindowsAlone windows = windows
-windows_by NoRules windows = Pass
 
 -- those rules, then what is said of the windows
 unfoldable pub exchange_by : (ℕ → ℕ → Found) → ExchangeRules → List Avp → List ℕ → ℕ → ℕ → Outcome → Outcome → Outcome
 exchange_by find rules xs s end number policies windows =
-    or_else (by_command find rules xs s end number policies) (windows_by rules windows)
+    or_else (by_command find rules xs s end number policies) windows
 
 -- by the search of the command's own list, with each policy and each window
 abbrev pub exchange_outcome : ExchangeRules → List Avp → List ℕ → ℕ → Outcome

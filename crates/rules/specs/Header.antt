@@ -3,7 +3,7 @@ use Rattle.std.specs.Prelude.{ℕ, ◌%◌, List, Bool, not, ◌&&◌, ◌||◌,
 use Rattle.rules.specs.declared.Outcome.{Outcome}
 use Rattle.rules.specs.declared.Outcome.TheVariants.{Pass}
 use Rattle.rules.specs.Octets.{number_at, flag}
-use Rattle.rules.specs.Verdict.{is_among, refused, refuse_if, or_else}
+use Rattle.rules.specs.Verdict.{refused, refuse_if, or_else}
 
 -- the header's octets
 abbrev pub header_size : ℕ
@@ -44,21 +44,12 @@ is_error = flag 32
 abbrev pub is_retransmitted : ℕ → Bool
 is_retransmitted = flag 16
 
--- the command code and the Nt application; those of Nta (02, [12]), and the vendor 3GPP
+-- the command code, the Nt application, and the vendor 3GPP
 abbrev pub code_background_data_transfer : ℕ
 code_background_data_transfer = 8388723
 
 abbrev pub application_nt : ℕ
 application_nt = 16777348
-
-abbrev pub code_event_configuration : ℕ
-code_event_configuration = 16777214
-
-abbrev pub code_event_reporting : ℕ
-code_event_reporting = 16777215
-
-abbrev pub application_nta : ℕ
-application_nta = 4294967294
 
 abbrev pub vendor_3gpp : ℕ
 vendor_3gpp = 10415
@@ -77,11 +68,11 @@ length_outcome s =
     (refuse_if (ltb longest_command (length_field s)) (refused 7001 1 0 0)
     Pass)))
 
--- application, then command code: one of a profile's
-unfoldable pub application_outcome : List ℕ → List ℕ → List ℕ → Outcome
-application_outcome applications codes s =
-    refuse_if (not (is_among applications (application s))) (refused 3007 8 0 0)
-    (refuse_if (not (is_among codes (command_code s))) (refused 3001 5 0 0)
+-- application, then command code
+unfoldable pub application_outcome : List ℕ → Outcome
+application_outcome s =
+    refuse_if (not (eqb (application s) application_nt)) (refused 3007 8 0 0)
+    (refuse_if (not (eqb (command_code s) code_background_data_transfer)) (refused 3001 5 0 0)
     Pass)
 
 -- R and E both set; or P clear, without E or with R (02, [1]): in an answer with E it may be clear
@@ -92,6 +83,5 @@ flags_outcome flags =
     Pass
 
 -- the header's checks together
-unfoldable pub header_by : List ℕ → List ℕ → List ℕ → Outcome
-header_by applications codes s =
-    or_else (length_outcome s) (or_else (application_outcome applications codes s) (flags_outcome (command_flags s)))
+unfoldable pub header_outcome : List ℕ → Outcome
+header_outcome s = or_else (length_outcome s) (or_else (application_outcome s) (flags_outcome (command_flags s)))

@@ -8,8 +8,6 @@ pub mod Header
 pub mod Avp
 pub mod Dictionary
 pub mod Rows
--- and what an application brings of them
-pub mod Profile
 -- Order of checks: the header's stand in Header; walk, rows, exchange rules with the order of times, and all of them in
 -- order
 pub mod Walk
@@ -44,5 +42,3 @@ pub mod Book
 -- Commands at the edges, computed; and what request [1] claims of answers with E, with such answers computed
 pub mod Edges
 pub mod ErrorAnswers
--- and what request [12] claims of the applications, with commands of Nta computed
-pub mod Applications

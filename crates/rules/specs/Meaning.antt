@@ -2,9 +2,8 @@
 use Rattle.std.specs.Prelude.{ℕ, List, [], map, Bool, cond, length, take, drop}
 use Rattle.rules.specs.declared.Avp.{Avp}
 use Rattle.rules.specs.declared.Record.{Record}
-use Rattle.rules.specs.Header.{command_flags, is_request, is_proxiable, is_error, is_retransmitted, command_code, application, hop_by_hop, end_to_end}
-use Rattle.rules.specs.Dictionary.{Entry, find, is_group}
-use Rattle.rules.specs.Profile.{dictionary_of}
+use Rattle.rules.specs.Header.{command_flags, is_request, is_proxiable, is_error, is_retransmitted, hop_by_hop, end_to_end}
+use Rattle.rules.specs.Dictionary.{Entry, dictionary, find, is_group}
 use Rattle.rules.specs.Walk.{avps_of}
 use Rattle.rules.specs.Command.{walk_of}
 use Rattle.rules.specs.Record.{recorded}
@@ -19,15 +18,12 @@ pub record Cell : Type 0 where
   pub length : ℕ
   pub octets : List ℕ
 
--- the meaning: command flags, command code and application (02, [12]), identifiers, the number of AVPs in the walk, and
--- what each adds, in walk order
+-- the meaning: command flags, identifiers, the number of AVPs in the walk, and what each adds, in walk order
 pub record Meaning : Type 0 where
   pub r : Bool
   pub p : Bool
   pub e : Bool
   pub t : Bool
-  pub code : ℕ
-  pub application : ℕ
   pub hop_by_hop : ℕ
   pub end_to_end : ℕ
   pub count : ℕ
@@ -56,12 +52,10 @@ meaning_of s = record {
   p = is_proxiable (command_flags s);
   e = is_error (command_flags s);
   t = is_retransmitted (command_flags s);
-  code = command_code s;
-  application = application s;
   hop_by_hop = hop_by_hop s;
   end_to_end = end_to_end s;
   count = length (avps_of (walk_of s));
-  cells = map (cell_of (dictionary_of (application s)) s) (avps_of (walk_of s));
+  cells = map (cell_of dictionary s) (avps_of (walk_of s));
 }
 
 -- the meaning of a record over octets; starts do not belong to it
@@ -71,10 +65,8 @@ meaning_over r s = record {
   p = r.p;
   e = r.e;
   t = r.t;
-  code = r.command_code;
-  application = r.application;
   hop_by_hop = r.hop_by_hop;
   end_to_end = r.end_to_end;
   count = r.count;
-  cells = map (cell_of (dictionary_of r.application) s) (recorded r);
+  cells = map (cell_of dictionary s) (recorded r);
 }

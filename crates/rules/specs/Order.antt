@@ -7,12 +7,13 @@ use Rattle.rules.specs.declared.Written.{Written}
 use Rattle.rules.specs.declared.Outcome.{Outcome}
 use Rattle.rules.specs.declared.Outcome.TheVariants.{Pass, Refused}
 use Rattle.rules.specs.Verdict.{writer_only_numbers, is_among, verdict}
-use Rattle.rules.specs.Header.{longest_command}
+use Rattle.rules.specs.Header.{header_outcome, longest_command}
+use Rattle.rules.specs.Dictionary.{dictionary}
 use Rattle.rules.specs.Walk.{whole, stopped}
 use Rattle.rules.specs.RowChecks.{list_outcome, groups_outcome}
 use Rattle.rules.specs.Search.{first}
-use Rattle.rules.specs.Exchange.{by_command, policy_number, each_policy, each_window, windows_by}
-use Rattle.rules.specs.Command.{chosen, header_outcome, command_rules, walk_of, command_verdict}
+use Rattle.rules.specs.Exchange.{by_command, policy_number, each_policy, each_window}
+use Rattle.rules.specs.Command.{command_rules, walk_of, command_verdict}
 use Rattle.rules.specs.Draft.{Draft, is_well_formed}
 use Rattle.rules.specs.Writer.{draft_octets, writing}
 
@@ -38,19 +39,19 @@ fits_table v =
     && unnamed 7002 v
 
 -- the checks over the AVPs of a command's walk, in 01's order: the rows of the command's own list, those of each group,
--- the exchange rules but for the windows, of which an answer with E has none, the windows; Nta has neither
+-- the exchange rules but for the windows, of which an answer with E has none, the windows
 abbrev pub own_rows : List ℕ → List Avp → Outcome
 own_rows c xs = list_outcome (command_rules c).rows 1 (length c) xs
 
 abbrev pub group_rows : List ℕ → List Avp → Outcome
-group_rows c xs = groups_outcome (chosen c).entries xs
+group_rows c xs = groups_outcome dictionary xs
 
 abbrev pub exchange : List ℕ → List Avp → Outcome
 exchange c xs =
     by_command (first xs) (command_rules c).exchange xs c (length c) (policy_number xs) (each_policy xs)
 
 abbrev pub windows : List ℕ → List Avp → Outcome
-windows c xs = windows_by (command_rules c).exchange (each_window xs c 0 xs)
+windows c xs = each_window xs c 0 xs
 
 -- over the AVPs of a walk without fault, the first of them that refuses is the answer
 pub record FirstListFault (c : List ℕ) (xs : List Avp) : Type 0 where

@@ -3,17 +3,16 @@
 use Rattle.std.specs.Prelude.{◌≡◌, false, List, ℕ, ◌≤◌, length}
 use Rattle.rules.specs.declared.Avp.{Avp}
 use Rattle.rules.specs.declared.Outcome.TheVariants.{Pass}
-use Rattle.rules.specs.Header.{vendor_3gpp, command_flags, is_request, is_error}
+use Rattle.rules.specs.Header.{vendor_3gpp, header_outcome, command_flags, is_request, is_error}
 use Rattle.rules.specs.Walk.{whole}
 use Rattle.rules.specs.Search.{first, how_many, NoAvp}
 use Rattle.rules.specs.Exchange.{result_outcome}
-use Rattle.rules.specs.Command.{IsNt, header_outcome, walk_of}
+use Rattle.rules.specs.Command.{walk_of}
 use Rattle.rules.specs.Order.{own_rows, group_rows}
 use Rattle.rules.specs.Volumes.{Has}
 
--- an answer of Nt without E
+-- an answer without E
 pub record IsAnswer (c : List ℕ) : Type 0 where
-  pub of_nt : IsNt c
   pub not_request : is_request (command_flags c) ≡ false
   pub without_error : is_error (command_flags c) ≡ false
 

@@ -6,7 +6,7 @@ use Rattle.rules.specs.declared.Reading.{Reading}
 use Rattle.rules.specs.declared.Outcome.{Outcome}
 use Rattle.rules.specs.declared.Outcome.TheVariants.{Pass, Refused}
 use Rattle.rules.specs.declared.Sought.{Sought}
-use Rattle.rules.specs.Header.{command_flags, command_code, application, hop_by_hop, end_to_end, is_request, is_proxiable, is_error, is_retransmitted}
+use Rattle.rules.specs.Header.{command_flags, hop_by_hop, end_to_end, is_request, is_proxiable, is_error, is_retransmitted}
 use Rattle.rules.specs.Avp.{end_of}
 use Rattle.rules.specs.Walk.{most_avps, avps_of}
 use Rattle.rules.specs.Search.{blank, avp_in, search, how_many, Stands}
@@ -23,8 +23,6 @@ record_of s xs = record {
   p = is_proxiable (command_flags s);
   e = is_error (command_flags s);
   t = is_retransmitted (command_flags s);
-  command_code = command_code s;
-  application = application s;
   hop_by_hop = hop_by_hop s;
   end_to_end = end_to_end s;
   count = length xs;
@@ -38,8 +36,6 @@ empty_record = record {
   p = Bool.false;
   e = Bool.false;
   t = Bool.false;
-  command_code = 0;
-  application = 0;
   hop_by_hop = 0;
   end_to_end = 0;
   count = 0;

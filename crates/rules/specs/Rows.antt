@@ -1,9 +1,9 @@
--- 01, Rows, and 02, [1] and [12]: the rows of each list, in the printed order.
-use Rattle.std.specs.Prelude.{ℕ, List, [], ◌∷◌, ◌++◌, Bool, true, false}
+-- 01, Rows, and 02, [1]: the rows of each list, in the printed order.
+use Rattle.std.specs.Prelude.{ℕ, List, [], ◌∷◌, Bool, true, false}
 use Rattle.rules.specs.declared.Mark.{Mark}
 use Rattle.rules.specs.declared.Mark.TheVariants.{First, FirstIfPresent, Once, AtMostOnce, AnyNumber}
 use Rattle.rules.specs.declared.Grammar.{Grammar}
-use Rattle.rules.specs.declared.Grammar.TheVariants.{Request, Answer, ErrorAnswer, VendorSpecificApplicationId, ExperimentalResult, ProxyInfo, SupportedFeatures, TimeWindow, TransferPolicy, EventConfigurationRequest, EventReportingRequest, EventAnswer, EventReports}
+use Rattle.rules.specs.declared.Grammar.TheVariants.{Request, Answer, ErrorAnswer, VendorSpecificApplicationId, ExperimentalResult, ProxyInfo, SupportedFeatures, TimeWindow, TransferPolicy}
 use Rattle.rules.specs.Header.{vendor_3gpp}
 
 -- a row: the name, and its mark
@@ -20,32 +20,17 @@ plain code mark = record { vendor = 0; code = code; mark = mark }
 abbrev pub of_3gpp : ℕ → Mark → Row
 of_3gpp code mark = record { vendor = vendor_3gpp; code = code; mark = mark }
 
--- the rows with which BTR and BTA begin
-abbrev pub command_rows : List Row
-command_rows =
-    plain 263 First ∷ plain 301 AtMostOnce ∷ plain 260 Once ∷ plain 277 Once ∷ plain 264 Once ∷ plain 296 Once ∷ []
-
--- BTR's to 293, which the requests of Nta have too (02, [12])
-abbrev pub request_rows : List Row
-request_rows = command_rows ++ plain 283 Once ∷ plain 293 AtMostOnce ∷ []
-
--- and BTA's to 262, which the answers of Nta have
-abbrev pub answer_rows : List Row
-answer_rows =
-    command_rows ++
-    plain 268 AtMostOnce ∷ plain 297 AtMostOnce ∷ plain 281 AtMostOnce ∷ plain 294 AtMostOnce ∷ plain 279 AtMostOnce ∷
-    plain 292 AnyNumber ∷ plain 261 AtMostOnce ∷ plain 262 AtMostOnce ∷ []
-
 -- the rows of each list
 unfoldable pub rows_of : Grammar → List Row
 rows_of Request =
-    request_rows ++
-    of_3gpp 4203 Once ∷ of_3gpp 532 AtMostOnce ∷ plain 414 AtMostOnce ∷ plain 412 AtMostOnce ∷
+    plain 263 First ∷ plain 301 AtMostOnce ∷ plain 260 Once ∷ plain 277 Once ∷ plain 264 Once ∷ plain 296 Once ∷ plain 283 Once ∷
+    plain 293 AtMostOnce ∷ of_3gpp 4203 Once ∷ of_3gpp 532 AtMostOnce ∷ plain 414 AtMostOnce ∷ plain 412 AtMostOnce ∷
     plain 421 AtMostOnce ∷ of_3gpp 4209 AtMostOnce ∷ of_3gpp 4204 AtMostOnce ∷ of_3gpp 4201 AtMostOnce ∷ of_3gpp 4202 AtMostOnce ∷
     of_3gpp 4208 AtMostOnce ∷ plain 621 AtMostOnce ∷ plain 284 AnyNumber ∷ plain 282 AnyNumber ∷ of_3gpp 628 AnyNumber ∷ []
 rows_of Answer =
-    answer_rows ++
-    of_3gpp 4202 AtMostOnce ∷ plain 621 AtMostOnce ∷
+    plain 263 First ∷ plain 301 AtMostOnce ∷ plain 260 Once ∷ plain 277 Once ∷ plain 264 Once ∷ plain 296 Once ∷
+    plain 268 AtMostOnce ∷ plain 297 AtMostOnce ∷ plain 281 AtMostOnce ∷ plain 294 AtMostOnce ∷ plain 279 AtMostOnce ∷
+    plain 292 AnyNumber ∷ plain 261 AtMostOnce ∷ plain 262 AtMostOnce ∷ of_3gpp 4202 AtMostOnce ∷ plain 621 AtMostOnce ∷
     plain 623 AtMostOnce ∷ of_3gpp 4207 AnyNumber ∷ of_3gpp 2207 AtMostOnce ∷ plain 284 AnyNumber ∷ plain 282 AnyNumber ∷
     of_3gpp 628 AnyNumber ∷ plain 650 AnyNumber ∷ []
 -- 02, [1]: the general form of RFC 6733 clause 7.2
@@ -59,16 +44,6 @@ rows_of SupportedFeatures = plain 266 Once ∷ of_3gpp 629 Once ∷ of_3gpp 630 
 rows_of TimeWindow = of_3gpp 4206 Once ∷ of_3gpp 4205 Once ∷ []
 rows_of TransferPolicy =
     of_3gpp 4208 Once ∷ of_3gpp 4204 AtMostOnce ∷ plain 432 AtMostOnce ∷ of_3gpp 515 AtMostOnce ∷ of_3gpp 516 AtMostOnce ∷ []
--- 02, [12]
-rows_of EventConfigurationRequest =
-    request_rows ++
-    of_3gpp 4210 Once ∷ of_3gpp 4211 AnyNumber ∷ of_3gpp 4212 AtMostOnce ∷ of_3gpp 4216 AtMostOnce ∷ plain 284 AnyNumber ∷
-    plain 282 AnyNumber ∷ []
-rows_of EventReportingRequest =
-    request_rows ++
-    of_3gpp 4210 Once ∷ of_3gpp 4213 AtMostOnce ∷ of_3gpp 4215 AnyNumber ∷ plain 284 AnyNumber ∷ plain 282 AnyNumber ∷ []
-rows_of EventAnswer = answer_rows ++ plain 284 AnyNumber ∷ plain 282 AnyNumber ∷ []
-rows_of EventReports = of_3gpp 4211 Once ∷ of_3gpp 4214 AtMostOnce ∷ []
 
 -- "+" at the end admits any other AVP in any number
 unfoldable pub admits_others : Grammar → Bool
@@ -81,7 +56,3 @@ admits_others ProxyInfo = true
 admits_others SupportedFeatures = true
 admits_others TimeWindow = true
 admits_others TransferPolicy = true
-admits_others EventConfigurationRequest = true
-admits_others EventReportingRequest = true
-admits_others EventAnswer = true
-admits_others EventReports = true

@@ -5,7 +5,6 @@ use Rattle.rules.specs.declared.Avp.{Avp}
 use Rattle.rules.specs.Octets.{number_at}
 use Rattle.rules.specs.Header.{vendor_3gpp, command_flags, is_request}
 use Rattle.rules.specs.Search.{avp_in, FirstAvp, NoAvp}
-use Rattle.rules.specs.Command.{IsNt}
 
 -- there is an AVP with this vendor and code
 abbrev pub Has : List Avp → ℕ → ℕ → Type 0
@@ -21,7 +20,6 @@ StandsAlone xs = (NoAvp xs 0 421) ⊎ ((NoAvp xs 0 412) × (NoAvp xs 0 414))
 
 -- a BTR whose 4203 has this value; xs are the AVPs of its walk
 pub record RequestOfType (c : List ℕ) (xs : List Avp) (value : ℕ) : Type 0 where
-  pub of_nt : IsNt c
   pub request : is_request (command_flags c) ≡ true
   pub position : ℕ
   pub typed : FirstAvp xs vendor_3gpp 4203 position

@@ -2,7 +2,7 @@
 -- 0; padding and reserved bits are 0.
 use Rattle.std.specs.Prelude.{ℕ, ◌+◌, ◌-◌, List, [], ◌∷◌, ◌++◌, Bool, cond, length, replicate}
 use Rattle.rules.specs.Octets.{octets, padded}
-use Rattle.rules.specs.Header.{header_size}
+use Rattle.rules.specs.Header.{header_size, application_nt, code_background_data_transfer}
 use Rattle.rules.specs.Avp.{header_of, has_v}
 use Rattle.rules.specs.Meaning.{Cell, Meaning}
 
@@ -37,7 +37,7 @@ flags_octet m = cond m.r 128 0 + cond m.p 64 0 + cond m.e 32 0 + cond m.t 16 0
 -- the command's header, before AVPs of this many octets
 unfoldable pub command_header : Meaning → ℕ → List ℕ
 command_header m size =
-    1 ∷ (octets 3 (header_size + size) ++ (flags_octet m ∷ (octets 3 m.code ++ (octets 4 m.application
+    1 ∷ (octets 3 (header_size + size) ++ (flags_octet m ∷ (octets 3 code_background_data_transfer ++ (octets 4 application_nt
     ++ (octets 4 m.hop_by_hop ++ octets 4 m.end_to_end)))))
 
 -- the octets that the writer gives to a meaning

@@ -2,7 +2,6 @@
 // rules are in specs/, in the order of document 01, and the laws that the proofs above cite in proofs/.
 
 pub mod flags;
-pub mod layout;
 pub mod limits;
 
 // What comes back for a command (01, What comes back): the number, 0 where it is accepted, the place, and the Vendor-Id
@@ -35,16 +34,13 @@ pub struct Avp {
     pub length: u32,
 }
 
-// The record of a command: command flags, command code and application (02, [12]), identifiers, and room for 256 AVPs,
-// of which `count` are used.
+// The record of a command: command flags, identifiers, and room for 256 AVPs, of which `count` are used.
 #[derive(Drop)]
 pub struct Record {
     pub r: bool,
     pub p: bool,
     pub e: bool,
     pub t: bool,
-    pub command_code: u32,
-    pub application: u32,
     pub hop_by_hop: u32,
     pub end_to_end: u32,
     pub count: u32,
@@ -81,8 +77,7 @@ pub struct Sought {
     pub number: usize,
 }
 
-// The lists that have rows: the request, the answer, each grouped AVP that is read, and the answer with E (02, [1]);
-// and of the Nta application its two requests, its answers and its grouped AVP (02, [12]).
+// The lists that have rows: the request, the answer, each grouped AVP that is read, and the answer with E (02, [1]).
 #[derive(Drop)]
 pub enum Grammar {
     Request,
@@ -94,28 +89,15 @@ pub enum Grammar {
     TimeWindow,
     TransferPolicy,
     ErrorAnswer,
-    EventConfigurationRequest,
-    EventReportingRequest,
-    EventAnswer,
-    EventReports,
 }
 
-// The applications (02, [12]): Nt and Nta, and neither of them, which is any other number.
-#[derive(Drop)]
-pub enum Application {
-    Nt,
-    Nta,
-    Neither,
-}
-
-// The exchange rules that apply to a command: those of a request or of an answer, each with the window rule; the window
-// rule alone (02, [1]); or none (02, [12]).
+// The exchange rules that apply to a command: those of a request or of an answer, each with the window rule; or the
+// window rule alone (02, [1]).
 #[derive(Drop)]
 pub enum ExchangeRules {
     OfRequest,
     OfAnswer,
     WindowsAlone,
-    NoRules,
 }
 
 // What a command is judged by, chosen from its header: the rows of its own list, and the exchange rules.

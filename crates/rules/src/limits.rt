@@ -1,19 +1,9 @@
-// The numbers of documents 01 and 02 that are not AVP codes: the applications and their command codes, the vendors, and
-// the limits. Those of a log are this repository's own; a record at the boundary has its layout.
+// The numbers of documents 01 and 02 that are not AVP codes: the Nt application and its command code, the vendors, and
+// the limits. Those of a log and of a record at the boundary are this repository's own.
 
 pub const APPLICATION_NT: u32 = 16777348;
 
 pub const CODE_BACKGROUND_DATA_TRANSFER: u32 = 8388723;
-
-// 02, [12]: the Nta application, configuration and reporting.
-pub const APPLICATION_NTA: u32 = 4294967294;
-
-pub const CODE_EVENT_CONFIGURATION: u32 = 16777214;
-
-pub const CODE_EVENT_REPORTING: u32 = 16777215;
-
-// The command codes, of three octets, are those below this.
-pub const COMMAND_CODES: u32 = 16777216;
 
 // The vendor of an AVP whose V flag is clear, and 3GPP.
 pub const NO_VENDOR: u32 = 0;
@@ -35,6 +25,13 @@ pub const AVP_HEADER_SIZE_WITH_VENDOR: usize = 12;
 pub const LOGGED_NUMBERS: usize = 9;
 
 pub const LOG_NUMBERS: usize = 2304;
+
+// The numbers that a record has at the boundary: seven of the command, then seven of each place.
+pub const HEAD_NUMBERS: usize = 7;
+
+pub const AVP_NUMBERS: usize = 7;
+
+pub const RECORD_NUMBERS: usize = 1799;
 
 // The deepest that an AVP stands.
 pub const DEEPEST: u32 = 4;

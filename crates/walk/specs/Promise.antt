@@ -65,7 +65,7 @@ pub record StandsIn (s : List ℕ) (w : Standing) : Type 0 where
 abbrev pub checked_with : List ℕ → ℕ → Avp → Definition → Checked
 checked_with s at a d = settled (contents s at a d) (cond (is_group d) (Group a) (Plain a))
 
--- the number of a name's entry by a table of codes, in an octet, as a log keeps it
+-- the number of a name's entry by a table of plain codes, in an octet, as a log keeps it
 abbrev pub number_by : List ℕ → ℕ → ℕ → ℕ
 number_by table vendor code = min (entry_by table vendor code) no_number
 

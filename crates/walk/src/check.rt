@@ -4,17 +4,18 @@ ghost use Rattle.rules.specs.Octets.{number_at};
 ghost use Rattle.rules.specs.Verdict.{refused};
 ghost use Rattle.rules.specs.Header.{longest_command};
 ghost use Rattle.rules.specs.Avp.{flag_v, header_of};
+ghost use Rattle.rules.specs.Dictionary.{dictionary};
 ghost use Rattle.rules.specs.Walk.{wrong_flags, unsupported, wrong_width, wrong_value, too_deep, contents};
 ghost use Rattle.rules.specs.Walk.{checked_avp, checked, standing};
-ghost use Rattle.dictionary.specs.Entries.{every_entry, definition_at};
+ghost use Rattle.dictionary.specs.Entries.{definition_at};
 ghost use Rattle.dictionary.specs.Table.{dictionary_by};
 ghost use Rattle.walk.specs.Promise.{InList, checked_with, number_by, with_number, with_entry};
 
 use crate::frame;
 use crate::frame::Frame;
 use avp::is_named;
-use dictionary::codes;
 use dictionary::kinds::{AuthSessionState, TransferRequestType};
+use dictionary::plain;
 use octets::has_flag;
 use rules::{Avp, Outcome, Verdict, flags, limits};
 
@@ -38,7 +39,7 @@ fn has_vendor_zero(flags: u8, vendor: u32) -> bool
 
 // Check 3.
 fn wrong_flags(flags: u8, a: Avp, entry: u8) -> bool
-    ensures { result ≡ wrong_flags flags a (definition_at every_entry entry) }
+    ensures { result ≡ wrong_flags flags a (definition_at dictionary entry) }
 {
     let reserved = flags % 32;
     if reserved != 0 {
@@ -55,7 +56,7 @@ fn wrong_flags(flags: u8, a: Avp, entry: u8) -> bool
 
 // Check 4.
 fn unsupported_name(a: Avp, entry: u8) -> bool
-    ensures { result ≡ unsupported a (definition_at every_entry entry) }
+    ensures { result ≡ unsupported a (definition_at dictionary entry) }
 {
     if dictionary::is_known(entry) {
         return false;
@@ -65,7 +66,7 @@ fn unsupported_name(a: Avp, entry: u8) -> bool
 
 // Check 5.
 fn wrong_width(a: Avp, entry: u8) -> bool
-    ensures { result ≡ wrong_width a (definition_at every_entry entry) }
+    ensures { result ≡ wrong_width a (definition_at dictionary entry) }
 {
     let width = dictionary::width(entry);
     if width == 0 {
@@ -94,7 +95,7 @@ fn wrong_value(s: &[u8], a: Avp) -> bool
 
 // Check 7.
 fn too_deep(a: Avp, entry: u8) -> bool
-    ensures { result ≡ too_deep a (definition_at every_entry entry) }
+    ensures { result ≡ too_deep a (definition_at dictionary entry) }
 {
     if dictionary::is_group(entry) {
         return limits::DEEPEST <= a.depth;
@@ -112,7 +113,7 @@ fn refusal(number: u32, at: usize, a: Avp) -> Outcome
 // Checks 3 to 7 of the AVP at a place, with the entry of its name.
 fn content(s: &[u8], at: usize, a: Avp, entry: u8) -> Outcome
     requires { (at + header_of false ≤ length s.now) × (at ≤ longest_command) }
-    ensures { result ≡ contents s.now at a (definition_at every_entry entry) }
+    ensures { result ≡ contents s.now at a (definition_at dictionary entry) }
 {
     if wrong_flags(s[at + 4], a, entry) {
         return refusal(3009, at, a);
@@ -135,7 +136,7 @@ fn content(s: &[u8], at: usize, a: Avp, entry: u8) -> Outcome
 // Checks 3 to 7 of the AVP at a place, with the entry of its name, and whether its data is a list.
 fn judged(s: &[u8], at: usize, a: Avp, entry: u8) -> CheckedEntry
     requires { (at + header_of false ≤ length s.now) × (at ≤ longest_command) }
-    ensures { result ≡ with_number entry (checked_with s.now at a (definition_at every_entry entry)) }
+    ensures { result ≡ with_number entry (checked_with s.now at a (definition_at dictionary entry)) }
 {
     let outcome = content(s, at, a, entry);
     if let Outcome::Refused(v) = outcome {
@@ -147,8 +148,8 @@ fn judged(s: &[u8], at: usize, a: Avp, entry: u8) -> CheckedEntry
     CheckedEntry::Basic { avp: a, entry }
 }
 
-// The same, by a table, which leads to the entry.
-fn looked_up(s: &[u8], table: &[u8; codes::CODES], at: usize, a: Avp) -> CheckedEntry
+// The same, by a table of plain codes, which leads to the entry.
+fn looked_up(s: &[u8], table: &[u8; plain::PLAIN_CODES], at: usize, a: Avp) -> CheckedEntry
     requires { (at + header_of false ≤ length s.now) × (at ≤ longest_command) }
     ensures { result ≡ with_entry (number_by table.now) (checked_avp (dictionary_by table.now) s.now at a) }
 {
@@ -159,7 +160,7 @@ fn looked_up(s: &[u8], table: &[u8; codes::CODES], at: usize, a: Avp) -> Checked
 // The seven checks of the AVP at a place of a list, with `count` AVPs in the record already.
 pub(crate) fn check(
     s: &[u8],
-    table: &[u8; codes::CODES],
+    table: &[u8; plain::PLAIN_CODES],
     at: usize,
     end: usize,
     depth: u32,

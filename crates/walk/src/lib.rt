@@ -6,7 +6,7 @@ ghost use Rattle.dictionary.specs.Table.{dictionary_by};
 ghost use Rattle.walk.specs.Promise.{number_by, StandsIn, met_in, step_to, AvpWalked, ListWalked, CommandWalked};
 
 use crate::check::CheckedEntry;
-use dictionary::codes;
+use dictionary::plain;
 use rules::{Verdict, limits};
 
 mod check;
@@ -51,7 +51,7 @@ fn behind_group(members: Walk, next: usize) -> Step
 #[cycle(walk_avp_walk_list)]
 fn walk_avp(
     s: &[u8],
-    table: &[u8; codes::CODES],
+    table: &[u8; plain::PLAIN_CODES],
     at: usize,
     end: usize,
     depth: u32,
@@ -87,7 +87,7 @@ fn walk_avp(
 #[cycle(walk_avp_walk_list)]
 fn walk_list(
     s: &[u8],
-    table: &[u8; codes::CODES],
+    table: &[u8; plain::PLAIN_CODES],
     at: usize,
     end: usize,
     depth: u32,
@@ -112,11 +112,11 @@ fn walk_list(
     Walk::Whole(met)
 }
 
-// The walk of a command's own list, by a table of codes. A command without the octets of a header has no list;
+// The walk of a command's own list, by a table of plain codes. A command without the octets of a header has no list;
 // one that is longer than any is refused as by its header.
 pub fn walk_command(
     s: &[u8],
-    table: &[u8; codes::CODES],
+    table: &[u8; plain::PLAIN_CODES],
     log: &mut [u32; limits::LOG_NUMBERS],
 ) -> Walk
     ensures { CommandWalked (dictionary_by table.now) (number_by table.now) s.now log.old result log.new }

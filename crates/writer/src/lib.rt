@@ -8,7 +8,7 @@ ghost use Rattle.rules.specs.Writer.{answer_by};
 ghost use Rattle.numbers.specs.Draft.{numbered_draft};
 ghost use Rattle.writer.specs.Promise.{CanWrite, WrittenIfAccepted, IsWritten};
 
-use rules::{Outcome, Record, Verdict, Written, layout, limits};
+use rules::{Outcome, Record, Verdict, Written, limits};
 
 // Room for the longest command.
 fn blank_command() -> [u8; limits::LONGEST_COMMAND]
@@ -46,7 +46,7 @@ fn write_command(command: &[u8], size: usize, out: &mut [u8]) -> Written
 
 // Writes the draft that the numbers and the octets stand for: 7006, 7001 and 7004, then what the reader says of the
 // octets; accepted, they stand at the start of the output.
-pub fn write_numbers(numbers: &[u32; layout::RECORD_NUMBERS], s: &[u8], out: &mut [u8]) -> Written
+pub fn write_numbers(numbers: &[u32; limits::RECORD_NUMBERS], s: &[u8], out: &mut [u8]) -> Written
     ensures { IsWritten (numbered_draft numbers.now s.now) out.old result out.new }
 {
     let mut command = blank_command();
@@ -63,7 +63,7 @@ pub fn write_numbers(numbers: &[u32; layout::RECORD_NUMBERS], s: &[u8], out: &mu
 pub fn write(draft: Record, s: &[u8], out: &mut [u8]) -> Written
     ensures { IsWritten (draft_of draft s.now) out.old result out.new }
 {
-    let mut numbers = [0u32; layout::RECORD_NUMBERS];
+    let mut numbers = [0u32; limits::RECORD_NUMBERS];
     numbers::put(&mut numbers, draft);
     write_numbers(&numbers, s, out)
 }

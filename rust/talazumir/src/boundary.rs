@@ -50,24 +50,24 @@ pub(crate) fn verdict(octets: &[u8], log: &mut [u32; LOG_NUMBERS]) -> Verdict {
 /// before it.
 pub(crate) fn read(octets: &[u8]) -> (Verdict, Box<[u32; RECORD_NUMBERS]>) {
     let mut record = Box::<[u32; RECORD_NUMBERS]>::new_uninit();
-    // SAFETY: the slice is read, the record written, whatever its memory holds; see above.
+    // SAFETY: the slice is read, the record of 1,799 numbers written, whatever its memory holds; see above.
     let verdict = unsafe { talazumir_read(octets.as_ptr(), octets.len(), record.as_mut_ptr().cast()) };
-    // SAFETY: the call is proved to leave the numbers of a record, the empty one with a refusal, in all of its places.
+    // SAFETY: the call is proved to leave the numbers of a record, the empty one with a refusal, in all 1,799 places.
     (verdict, unsafe { record.assume_init() })
 }
 
 pub(crate) fn data(record: &[u32; RECORD_NUMBERS], position: usize, octets: &[u8]) -> Part {
-    // SAFETY: the record and the slice are only read; see above.
+    // SAFETY: the record of 1,799 numbers and the slice are only read; see above.
     unsafe { talazumir_data(record.as_ptr(), position, octets.as_ptr(), octets.len()) }
 }
 
 pub(crate) fn search(record: &[u32; RECORD_NUMBERS], vendor: u32, code: u32, ordinal: usize) -> Sought {
-    // SAFETY: the record is only read; see above.
+    // SAFETY: the record of 1,799 numbers is only read; see above.
     unsafe { talazumir_search(record.as_ptr(), vendor, code, ordinal) }
 }
 
 pub(crate) fn write(record: &[u32; RECORD_NUMBERS], octets: &[u8], out: &mut [u8]) -> Written {
-    // SAFETY: the record and the slice are only read, the output is written; see above.
+    // SAFETY: the record of 1,799 numbers and the slice are only read, the output is written; see above.
     unsafe { talazumir_write(record.as_ptr(), octets.as_ptr(), octets.len(), out.as_mut_ptr(), out.len()) }
 }
 

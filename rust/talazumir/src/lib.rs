@@ -1,5 +1,5 @@
-//! The proved reader and writer of Nt and Nta commands (TS 29.154: Background-Data-Transfer request and answer; event
-//! configuration and reporting for groups of UEs; and the error answers to the requests) as safe Rust.
+//! The proved reader and writer of Nt commands (TS 29.154, Background-Data-Transfer request and answer, and the error
+//! answers to the request) as safe Rust.
 //!
 //! The answers come from the archive that `rt staticlib boundary` proves and builds; this crate only hands over slices
 //! and arrays. `include/talazumir.h` has the table of verdict numbers, and the stack that each call takes: 52 KiB at
@@ -31,28 +31,16 @@ use std::fmt;
 mod boundary;
 #[cfg(doctest)]
 mod ignored;
-pub mod layout;
 pub mod lent;
 pub mod link;
 
-pub use layout::{MOST_AVPS, RECORD_NUMBERS};
 pub use link::Link;
 
-/// The Nt application (TS 29.154, clause 5), whose command is Background-Data-Transfer.
-pub const APPLICATION_NT: u32 = 16_777_348;
+/// Room for AVPs in a record; a count above it is read as it.
+pub const MOST_AVPS: usize = 256;
 
-/// The command code of Background-Data-Transfer.
-pub const CODE_BACKGROUND_DATA_TRANSFER: u32 = 8_388_723;
-
-/// The Nta application (TS 29.154, Annex A), whose commands are event configuration and event reporting. These three
-/// numbers are the bench's; Annex A has others.
-pub const APPLICATION_NTA: u32 = 4_294_967_294;
-
-/// The command code of event configuration.
-pub const CODE_EVENT_CONFIGURATION: u32 = 16_777_214;
-
-/// The command code of event reporting.
-pub const CODE_EVENT_REPORTING: u32 = 16_777_215;
+/// The numbers of a record: seven for the command, then seven for each position.
+pub const RECORD_NUMBERS: usize = 7 + 7 * MOST_AVPS;
 
 /// What comes back for a command or a draft.
 #[must_use = "it may be a refusal"]
@@ -144,7 +132,8 @@ impl Record {
         Record { numbers: Box::new(numbers) }
     }
 
-    /// The numbers, each where [`layout`] says.
+    /// The numbers: R, P, E, T, hop-by-hop, end-to-end, count; then for each of 256 positions depth, vendor, code, M,
+    /// P, start and length.
     pub fn numbers(&self) -> &[u32; RECORD_NUMBERS] {
         &self.numbers
     }
@@ -156,65 +145,54 @@ impl Record {
 
     /// The R flag: a request.
     pub fn is_request(&self) -> bool {
-        self.numbers[layout::R] == 1
+        self.numbers[0] == 1
     }
 
     /// The P flag: proxiable.
     pub fn is_proxiable(&self) -> bool {
-        self.numbers[layout::P] == 1
+        self.numbers[1] == 1
     }
 
     /// The E flag: of an accepted command, that it is an error answer.
     pub fn is_error(&self) -> bool {
-        self.numbers[layout::E] == 1
+        self.numbers[2] == 1
     }
 
     /// The T flag: potentially retransmitted.
     pub fn is_retransmitted(&self) -> bool {
-        self.numbers[layout::T] == 1
-    }
-
-    /// The command code: of an accepted command, one of its application's.
-    pub fn command_code(&self) -> u32 {
-        self.numbers[layout::COMMAND_CODE]
-    }
-
-    /// The application: of an accepted command, [`APPLICATION_NT`] or [`APPLICATION_NTA`].
-    pub fn application(&self) -> u32 {
-        self.numbers[layout::APPLICATION]
+        self.numbers[3] == 1
     }
 
     /// The hop-by-hop identifier.
     pub fn hop_by_hop(&self) -> u32 {
-        self.numbers[layout::HOP_BY_HOP]
+        self.numbers[4]
     }
 
     /// Sets the hop-by-hop identifier.
     pub fn set_hop_by_hop(&mut self, identifier: u32) {
-        self.numbers[layout::HOP_BY_HOP] = identifier;
+        self.numbers[4] = identifier;
     }
 
     /// The end-to-end identifier.
     pub fn end_to_end(&self) -> u32 {
-        self.numbers[layout::END_TO_END]
+        self.numbers[5]
     }
 
     /// How many positions are used; a count above 256 is read as 256.
     pub fn count(&self) -> usize {
-        MOST_AVPS.min(self.numbers[layout::COUNT] as usize)
+        MOST_AVPS.min(self.numbers[6] as usize)
     }
 
     /// The AVPs in walk order: a group, then its members.
     pub fn avps(&self) -> impl Iterator<Item = Avp> + '_ {
-        let positions = self.numbers[layout::HEAD_NUMBERS..].chunks_exact(layout::AVP_NUMBERS);
-        positions.take(self.count()).map(|numbers| Avp {
-            depth: numbers[layout::AVP_DEPTH],
-            vendor: numbers[layout::AVP_VENDOR],
-            code: numbers[layout::AVP_CODE],
-            m: numbers[layout::AVP_M] == 1,
-            p: numbers[layout::AVP_P] == 1,
-            start: numbers[layout::AVP_START],
-            length: numbers[layout::AVP_LENGTH],
+        self.numbers[7..].chunks_exact(7).take(self.count()).map(|n| Avp {
+            depth: n[0],
+            vendor: n[1],
+            code: n[2],
+            m: n[3] == 1,
+            p: n[4] == 1,
+            start: n[5],
+            length: n[6],
         })
     }
 
@@ -265,28 +243,8 @@ impl Record {
     }
 }
 
-/// The record of an accepted command, or the verdict that refuses it. The application in its header chooses the profile
-/// by which it is judged, that of Nt or of Nta; 3007 is for any other application, 3001 for a command code that the
-/// application does not have. An error answer, which has E set and R clear, is judged by the general form of RFC 6733,
-/// clause 7.2, and may have P clear.
-///
-/// ```
-/// // The first 100 octets of document 01's S, a request up to its Destination-Realm (283), and an AVP 4210 of one
-/// // octet: as a request for event configuration, an accepted command of the Nta application.
-/// let reports = [0, 0, 0x10, 0x72, 0xC0, 0, 0, 13, 0, 0, 0x28, 0xAF, b'g', 0, 0, 0];
-/// let mut octets = [&commands::S[..100], &reports].concat();
-/// octets[3] = 116;
-/// octets[5..8].copy_from_slice(&[0xFF, 0xFF, 0xFE]);
-/// octets[8..12].copy_from_slice(&[0xFF, 0xFF, 0xFF, 0xFE]);
-/// let record = talazumir::read(&octets)?;
-/// assert_eq!(record.application(), talazumir::APPLICATION_NTA);
-/// assert_eq!(record.command_code(), talazumir::CODE_EVENT_CONFIGURATION);
-///
-/// // Nt does not have that command.
-/// octets[8..12].copy_from_slice(&talazumir::APPLICATION_NT.to_be_bytes());
-/// assert_eq!(talazumir::read(&octets).unwrap_err().number, 3001);
-/// # Ok::<(), talazumir::Verdict>(())
-/// ```
+/// The record of an accepted command, or the verdict that refuses it. An error answer, which has E set and R clear, is
+/// judged by the general form of RFC 6733, clause 7.2, and may have P clear.
 ///
 /// ```
 /// // An error answer with P clear: Origin-Host (264) "h", Origin-Realm (296) "r" and Result-Code (268) 3002.
@@ -316,9 +274,8 @@ pub fn read(octets: &[u8]) -> Result<Record, Verdict> {
 /// is longer than the output, then the refusal that [`read`] gives to the command. A refusal leaves the whole output as
 /// it was, an acceptance what lies past the length.
 ///
-/// `include/talazumir.h` says when a draft is malformed, a command code above 16,777,215 among it, and which AVPs are
-/// groups in which application: none where it is neither Nt nor Nta. The record of an accepted command over the
-/// command's octets, given room, is accepted.
+/// `include/talazumir.h` says when a draft is malformed. The record of an accepted command over the command's octets,
+/// given room, is accepted.
 pub fn write(record: &Record, octets: &[u8], out: &mut [u8]) -> Written {
     boundary::write(&record.numbers, octets, out)
 }
@@ -347,8 +304,8 @@ pub fn canonical(octets: &[u8], out: &mut [u8]) -> Written {
 /// The number of seconds from one Time value (RFC 6733, clause 4.3.1) to another, each as [`u32::from_be_bytes`] makes
 /// it of the data of a Transfer-Start-Time (4206) or a Transfer-End-Time (4205). From 2,147,483,648 on a value counts
 /// from the beginning of 1900, below from 7 February 2036, 06:28:16 UTC. The number is 0 exactly for equal values,
-/// negative for a reversed window, and between -4,294,967,295 and 4,294,967,295. In a command of Nt a Time-Window
-/// (4204) is right exactly where the number is above 0; else it is refused with 5004. Nta has no such rule.
+/// negative for a reversed window, and between -4,294,967,295 and 4,294,967,295. A Time-Window (4204) is right exactly
+/// where the number is above 0; else it is refused with 5004.
 ///
 /// ```
 /// // 7 February 2036, from midnight to midnight.

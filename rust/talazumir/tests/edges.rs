@@ -1,7 +1,6 @@
 //! Document 01's commands at the edges through the safe functions: S, S without its last AVP, H and variants of H.
 
 use commands::S;
-use talazumir::layout::{self, position};
 use talazumir::{read, Avp, Reader, Record, Sought, Verdict, RECORD_NUMBERS};
 
 const H: [u8; 20] = [1, 0, 0, 20, 0xC0, 0x80, 0, 0x73, 1, 0, 0, 0x84, 0, 0, 0, 1, 0, 0, 0, 2];
@@ -21,7 +20,6 @@ fn refusal(number: u32, place: u32, vendor: u32, code: u32) -> Verdict {
 fn s_is_accepted_with_eleven_avps() {
     let record = read(&S).expect("S is accepted");
     assert!(record.is_request() && record.is_proxiable() && !record.is_error() && !record.is_retransmitted());
-    assert_eq!((record.command_code(), record.application()), (8_388_723, 16_777_348));
     assert_eq!((record.hop_by_hop(), record.end_to_end(), record.count()), (1, 2, 11));
     let codes: Vec<u32> = record.avps().map(|a| a.code).collect();
     assert_eq!(codes, [263, 260, 266, 277, 264, 296, 283, 4203, 293, 4202, 4208]);
@@ -29,24 +27,6 @@ fn s_is_accepted_with_eleven_avps() {
     assert_eq!(depths, [1, 1, 2, 1, 1, 1, 1, 1, 1, 1, 1]);
     let last = Avp { depth: 1, vendor: 10415, code: 4208, m: true, p: false, start: 156, length: 4 };
     assert_eq!(record.avps().last(), Some(last));
-}
-
-#[test]
-fn each_number_stands_where_the_layout_says() {
-    let numbers = *read(&S).expect("S is accepted").numbers();
-    let flags = [layout::R, layout::P, layout::E, layout::T];
-    assert_eq!(flags.map(|at| numbers[at]), [1, 1, 0, 0]);
-    let head = [layout::COMMAND_CODE, layout::APPLICATION, layout::HOP_BY_HOP, layout::END_TO_END, layout::COUNT];
-    assert_eq!(head.map(|at| numbers[at]), [8_388_723, 16_777_348, 1, 2, 11]);
-    assert_eq!(numbers[..layout::HEAD_NUMBERS], [1, 1, 0, 0, 8_388_723, 16_777_348, 1, 2, 11]);
-    // Of the AVP 4208, the last one.
-    let last = [layout::AVP_DEPTH, layout::AVP_VENDOR, layout::AVP_CODE, layout::AVP_M, layout::AVP_P];
-    assert_eq!(last.map(|at| numbers[position(10) + at]), [1, 10415, 4208, 1, 0]);
-    let data = [layout::AVP_START, layout::AVP_LENGTH];
-    assert_eq!(data.map(|at| numbers[position(10) + at]), [156, 4]);
-    assert_eq!(numbers[position(10)..position(11)], [1, 10415, 4208, 1, 0, 156, 4]);
-    assert!(numbers[position(11)..].iter().all(|&number| number == 0));
-    assert_eq!(RECORD_NUMBERS, 1_801);
 }
 
 #[test]

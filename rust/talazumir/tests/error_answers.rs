@@ -1,11 +1,8 @@
 //! Request 1 of 02 through the safe functions: an error answer read and written with all 16 combinations of R, P, E and
 //! T, the sample book of error answers, and the record of the one with every row.
 
-mod listing;
-
 use commands::S;
-use talazumir::layout::{position, COUNT, R, T};
-use talazumir::{read, write, Record, Verdict};
+use talazumir::{read, write, Reader, Record, Verdict, RECORD_NUMBERS};
 
 const BOOK: &[u8] = include_bytes!("../../../books/error-answers.ntb");
 const LISTING: &str = include_str!("../../../books/error-answers.listing");
@@ -36,7 +33,7 @@ fn bits(flags: u8) -> [bool; 4] {
 /// The record of the book's first command with these flags in it.
 fn draft(flags: u8) -> Record {
     let mut record = read(&shortest(0x60)).expect("the book's first command is accepted");
-    record.numbers_mut()[R..=T].copy_from_slice(&bits(flags).map(u32::from));
+    record.numbers_mut()[..4].copy_from_slice(&bits(flags).map(u32::from));
     record
 }
 
@@ -71,7 +68,19 @@ fn other_flags_make_no_error_answer() {
 
 #[test]
 fn the_sample_book_has_the_verdicts_of_its_listing() {
-    assert_eq!(listing::lines_of(BOOK), LISTING.lines().collect::<Vec<_>>());
+    let mut reader = Reader::new();
+    let (mut ordinal, mut accepted, mut at) = (0, 0, 5);
+    let mut lines = vec![String::from("NTB 1")];
+    while at < BOOK.len() {
+        let length = u32::from_be_bytes([0, BOOK[at + 1], BOOK[at + 2], BOOK[at + 3]]) as usize;
+        let verdict = reader.verdict(&BOOK[at..at + length]);
+        ordinal += 1;
+        accepted += u32::from(verdict.is_accepted());
+        lines.push(format!("{ordinal} {at} {verdict}"));
+        at += length;
+    }
+    lines.push(format!("end {ordinal} {accepted}"));
+    assert_eq!(lines, LISTING.lines().collect::<Vec<_>>());
 }
 
 #[test]
@@ -113,10 +122,10 @@ fn refused_drafts_leave_the_output() {
     }
     // Without its last AVP, the Result-Code (268); without any.
     let mut record = draft(0x20);
-    record.numbers_mut()[COUNT] = 2;
-    record.numbers_mut()[position(2)..position(3)].fill(0);
+    record.numbers_mut()[6] = 2;
+    record.numbers_mut()[21..28].fill(0);
     assert_eq!(refused(&record), refusal(5005, 44, 0, 268));
-    record.numbers_mut()[COUNT] = 0;
-    record.numbers_mut()[position(0)..].fill(0);
-    assert_eq!(refused(&record), refusal(5005, 20, 0, 264));
+    let mut numbers = [0; RECORD_NUMBERS];
+    numbers[2] = 1;
+    assert_eq!(refused(&Record::from_numbers(numbers)), refusal(5005, 20, 0, 264));
 }

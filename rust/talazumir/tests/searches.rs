@@ -2,23 +2,18 @@
 //! answers with Transfer-Policies, in the longest command, and in records of whatever numbers.
 
 use commands::{L, THREE_POLICIES};
-use talazumir::layout::{position, AVP_CODE, AVP_DEPTH, COUNT};
 use talazumir::{read, Record, Sought, MOST_AVPS, RECORD_NUMBERS};
 
+const COUNT: usize = 6;
 const VENDOR_3GPP: u32 = 10415;
 const POLICY: (u32, u32) = (VENDOR_3GPP, 4207);
 
 /// Ordinals below no number, among them such as would be 0, 1 or 2 if only their low octets counted.
 const FAR: [usize; 8] = [256, 257, 65_536, 1 << 32, (1 << 32) + 1, (1 << 32) + 2, 1 << 63, usize::MAX];
 
-/// The index of a position's depth.
-fn depth_of(at: usize) -> usize {
-    position(at) + AVP_DEPTH
-}
-
-/// Puts a Transfer-Policy at depth 1 at a position.
-fn put_policy(numbers: &mut [u32; RECORD_NUMBERS], at: usize) {
-    numbers[position(at)..][AVP_DEPTH..=AVP_CODE].copy_from_slice(&[1, 10415, 4207]);
+/// The index of a position's depth; its vendor and code stand behind.
+fn depth_of(position: usize) -> usize {
+    7 + 7 * position
 }
 
 fn three_policies() -> [u32; RECORD_NUMBERS] {
@@ -141,7 +136,7 @@ fn an_avp_behind_the_count() {
     ] {
         let mut numbers = three_policies();
         numbers[COUNT] = count;
-        put_policy(&mut numbers, 255);
+        numbers[depth_of(255)..][..3].copy_from_slice(&[1, 10415, 4207]);
         assert_numbers_found(numbers, POLICY, positions);
     }
 }
@@ -172,7 +167,7 @@ fn as_many_of_one_name_as_there_is_room_for() {
     let positions: Vec<usize> = (0..MOST_AVPS).collect();
     let mut numbers = [0; RECORD_NUMBERS];
     for &position in &positions {
-        put_policy(&mut numbers, position);
+        numbers[depth_of(position)..][..3].copy_from_slice(&[1, 10415, 4207]);
     }
     for count in [256, 257, u32::MAX] {
         numbers[COUNT] = count;

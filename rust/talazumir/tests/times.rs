@@ -1,6 +1,5 @@
 //! Request 5 of 02 through the boundary: its figures, and windows across 2036 read and written.
 
-use talazumir::layout::{position, AVP_START};
 use talazumir::{read, seconds, write, Record};
 
 /// 7 February 2036, from midnight to midnight.
@@ -33,7 +32,7 @@ fn seconds_of_a_record_are_those_of_its_times() {
 #[test]
 fn a_draft_with_its_times_exchanged_is_refused() {
     let mut numbers = *read(command()).expect("a window over 7 February 2036 is accepted").numbers();
-    numbers.swap(position(12) + AVP_START, position(13) + AVP_START);
+    numbers.swap(7 + 7 * 12 + 5, 7 + 7 * 13 + 5);
     let mut out = [0xEE; 204];
     let written = write(&Record::from_numbers(numbers), command(), &mut out);
     let verdict = written.verdict;

@@ -1,6 +1,6 @@
-//! Compares the proved reader, over its boundary, with the second reader on three commands for each name and on
-//! generated commands: the verdict, the whole record, the data of every position and the search; the seconds between
-//! two generated times with each command; and the search on made-up records.
+//! Compares the proved reader, over its boundary, with the second reader on two commands for each name and on generated
+//! commands: the verdict, the whole record, the data of every position and the search; the seconds between two
+//! generated times with each command; and the search on made-up records.
 //!
 //! `compare SEED COMMANDS` ends with a table of what was reached. It exits 1 at the first difference, with the command
 //! in hexadecimal or the record made small, or where a cell of the table is empty.
@@ -11,9 +11,7 @@ mod proved;
 use proved::Proved;
 use second_reader::coverage::Coverage;
 use second_reader::generate::{command, repeated, Prng};
-use second_reader::layout::{self, Head};
 use second_reader::searches::{self, coverage::SearchCoverage};
-use second_reader::Draft;
 use std::fmt::{Debug, Display};
 use std::process::ExitCode;
 
@@ -124,7 +122,8 @@ fn compare_records(ours: &talazumir::Record, expected: &second_reader::Record, o
         let b = (u32::from(b.depth), b.vendor, b.code, b.m, b.p, b.start, b.length);
         same(format_args!("position {position}"), a, b)?;
     }
-    compare_numbers(ours, &Draft::of(expected))?;
+    let unused = &ours.numbers()[7 + 7 * ours.count()..];
+    same("unused places", unused.iter().all(|&number| number == 0), true)?;
     let half = &octets[..octets.len() / 2];
     for position in (0..=ours.count()).chain([256, usize::MAX]) {
         for slice in [octets, half] {
@@ -135,20 +134,6 @@ fn compare_records(ours: &talazumir::Record, expected: &second_reader::Record, o
         }
     }
     Ok(())
-}
-
-/// All numbers by their names in the layout.
-fn compare_numbers(ours: &talazumir::Record, expected: &Draft) -> Result<(), String> {
-    let numbers = ours.numbers();
-    for name in Head::ALL {
-        same(format_args!("{name:?}"), numbers[name as usize], expected.number(name))?;
-    }
-    for (position, place) in expected.used().iter().enumerate() {
-        let ours = &numbers[layout::place(position)];
-        same(format_args!("numbers of position {position}"), ours, &place.numbers()[..])?;
-    }
-    let unused = &numbers[layout::place(expected.used().len()).start..];
-    same("unused places", unused.iter().all(|&number| number == 0), true)
 }
 
 /// The name is put into words only for a difference: it is asked for at every position of every command.

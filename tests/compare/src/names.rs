@@ -1,7 +1,7 @@
-//! Three commands for each name: S, an error answer and a request of Nta with one more AVP behind it, for every code up
-//! to [`LAST_CODE`], without vendor and with each of [`VENDORS`], with M and without, and with data of each of
-//! [`LENGTHS`]. So every place of a table by codes is looked at in both applications, each name of one vendor is tried
-//! with another, and each width is met and missed.
+//! Two commands for each name: S and an error answer with one more AVP behind it, for every code up to [`LAST_CODE`],
+//! without vendor and with each of [`VENDORS`], with M and without, and with data of each of [`LENGTHS`]. So every
+//! place of a table by codes is looked at, each name of one vendor is tried with another, and each width is met and
+//! missed.
 
 use commands::S;
 
@@ -20,25 +20,12 @@ const ERROR_ANSWER: [u8; 56] = [
     0, 0, 1, 0x0C, 0x40, 0, 0, 12, 0, 0, 0x0B, 0xC0, // 268
 ];
 
-/// Nta's request that configures events, with what it needs.
-const CONFIGURATION: [u8; 116] = [
-    1, 0, 0, 116, 0xC0, 0xFF, 0xFF, 0xFE, 0xFF, 0xFF, 0xFF, 0xFE, 0, 0, 0, 1, 0, 0, 0, 2, // header
-    0, 0, 1, 7, 0x40, 0, 0, 9, b's', 0, 0, 0, // 263
-    0, 0, 1, 4, 0x40, 0, 0, 20, 0, 0, 1, 10, 0x40, 0, 0, 12, 0, 0, 0x28, 0xAF, // 260 with 266
-    0, 0, 1, 0x15, 0x40, 0, 0, 12, 0, 0, 0, 1, // 277
-    0, 0, 1, 8, 0x40, 0, 0, 9, b'o', 0, 0, 0, // 264
-    0, 0, 1, 0x28, 0x40, 0, 0, 9, b'r', 0, 0, 0, // 296
-    0, 0, 1, 0x1B, 0x40, 0, 0, 9, b'd', 0, 0, 0, // 283
-    0, 0, 0x10, 0x72, 0xC0, 0, 0, 13, 0, 0, 0x28, 0xAF, b'n', 0, 0, 0, // 4210
-];
-
 /// The commands.
 pub fn commands() -> impl Iterator<Item = Vec<u8>> {
     let names = (0..=LAST_CODE).flat_map(|code| VENDORS.map(|vendor| (code, vendor)));
     names.flat_map(|(code, vendor)| {
         let forms = [true, false].into_iter().flat_map(|m| LENGTHS.map(|length| (m, length)));
-        let commands = [&S[..], &ERROR_ANSWER, &CONFIGURATION];
-        forms.flat_map(move |(m, length)| commands.map(|command| with(command, code, vendor, m, length)))
+        forms.flat_map(move |(m, length)| [&S[..], &ERROR_ANSWER].map(|command| with(command, code, vendor, m, length)))
     })
 }
 

@@ -3,10 +3,10 @@
 use crate::avp::AvpHeader;
 use crate::dictionary::{Form, Kind};
 use crate::header::{Command, HEADER};
-use crate::profile::dictionary_of;
+use crate::rows;
 use crate::verdict::{number, Verdict};
 use crate::walked::Walked;
-use crate::{error_coverage, nta_coverage, volume_coverage, window_coverage};
+use crate::{error_coverage, volume_coverage, window_coverage};
 use std::collections::BTreeMap;
 use std::fmt::{self, Display, Formatter};
 use std::ops::RangeInclusive;
@@ -32,8 +32,7 @@ pub struct Coverage {
     by_volumes: BTreeMap<volume_coverage::Cell, u64>,
     by_windows: BTreeMap<window_coverage::Cell, u64>,
     by_errors: BTreeMap<error_coverage::Cell, u64>,
-    by_nta: BTreeMap<nta_coverage::Cell, u64>,
-    accepted_by_command: BTreeMap<(u32, Command), u64>,
+    accepted_by_command: BTreeMap<Command, u64>,
     most_avps: usize,
     longest: usize,
 }
@@ -46,9 +45,6 @@ impl Coverage {
         let walked = Walked::of(octets);
         for cell in error_coverage::cells(octets, walked.as_ref(), verdict) {
             *self.by_errors.entry(cell).or_default() += 1;
-        }
-        for cell in nta_coverage::cells(octets, walked.as_ref(), verdict) {
-            *self.by_nta.entry(cell).or_default() += 1;
         }
         if let Some(walked) = &walked {
             for cell in volume_coverage::cells(walked, verdict) {
@@ -66,16 +62,16 @@ impl Coverage {
             _ => {
                 let depth = depth(octets, verdict);
                 *self.by_depth.entry((verdict.number, depth)).or_default() += 1;
-                if let Some(walked) = walked.as_ref().filter(|walked| walked.is_of_nt()) {
+                if let Some(walked) = &walked {
                     let named = (walked.command, verdict.number, verdict.vendor, verdict.code, depth);
                     *self.by_name_and_depth.entry(named).or_default() += 1;
                 }
-                if verdict.number == number::INVALID_AVP_LENGTH && is_width_at_fault(octets, verdict) {
+                if verdict.number == number::INVALID_AVP_LENGTH && fits(octets, verdict) {
                     *self.widths_by_depth.entry(depth).or_default() += 1;
                 }
             }
         }
-        let named = dictionary_of(octets).kind(verdict.vendor, verdict.code).is_some();
+        let named = Kind::of(verdict.vendor, verdict.code).is_some();
         let name = match verdict.number {
             number::ACCEPTED => return,
             // Unknown ones under one heading.
@@ -100,7 +96,7 @@ impl Coverage {
         self.widths_by_depth.get(&depth).copied().unwrap_or(0)
     }
 
-    /// How often a number occurred in such a command of Nt with this name at one of these depths.
+    /// How often a number occurred in such a command with this name at one of these depths.
     pub(crate) fn times_named(&self, command: Command, number: u32, kind: Kind, depths: RangeInclusive<u8>) -> u64 {
         let times = |depth| self.by_name_and_depth.get(&(command, number, kind.vendor(), kind.code(), depth));
         depths.filter_map(times).sum()
@@ -121,17 +117,11 @@ impl Coverage {
         self.by_errors.get(&cell).copied().unwrap_or(0)
     }
 
-    /// How often a command was as this cell of request 12 says.
-    pub(crate) fn times_nta(&self, cell: nta_coverage::Cell) -> u64 {
-        self.by_nta.get(&cell).copied().unwrap_or(0)
-    }
-
     fn accepted(&mut self, octets: &[u8]) {
         let record = crate::read(octets).record;
         let deepest = record.avps.iter().map(|avp| avp.depth).max().unwrap_or(0);
         *self.accepted_by_depth.entry(deepest).or_default() += 1;
-        let command = (record.command_code, Command::of(record.r, record.e));
-        *self.accepted_by_command.entry(command).or_default() += 1;
+        *self.accepted_by_command.entry(Command::of(record.r, record.e)).or_default() += 1;
         self.most_avps = self.most_avps.max(record.avps.len());
         self.longest = self.longest.max(octets.len());
     }
@@ -157,8 +147,8 @@ impl Display for Coverage {
                 for (depth, times) in &self.accepted_by_depth {
                     write!(f, " deepest {depth}: {times}")?;
                 }
-                for ((code, command), times) in &self.accepted_by_command {
-                    write!(f, "; {code} {command:?}: {times}")?;
+                for (command, times) in &self.accepted_by_command {
+                    write!(f, "; {command:?}: {times}")?;
                 }
                 write!(f, "; at most {} AVPs, {} octets", self.most_avps, self.longest)?;
             }
@@ -196,20 +186,16 @@ impl Display for Coverage {
         for cell in error_coverage::Cell::all() {
             writeln!(f, "{:>8}  {cell:?}", self.times_errors(cell))?;
         }
-        writeln!(f, "Nta:")?;
-        for cell in nta_coverage::Cell::all() {
-            writeln!(f, "{:>8}  {cell:?}", self.times_nta(cell))?;
-        }
         Ok(())
     }
 }
 
 /// Whether the AVP at fault is known, has a fixed width and lies whole in the command, so that its width is at fault;
 /// an AVP that only its list cuts off may pass for one.
-pub(crate) fn is_width_at_fault(octets: &[u8], verdict: &Verdict) -> bool {
+fn fits(octets: &[u8], verdict: &Verdict) -> bool {
     let place = verdict.place as usize;
     AvpHeader::read(&octets[place..], place).is_ok_and(|header| {
-        let width = match dictionary_of(octets).kind(header.vendor, header.code).map(Kind::form) {
+        let width = match Kind::of(header.vendor, header.code).map(Kind::form) {
             Some(Form::Four) => 4,
             Some(Form::Eight) => 8,
             _ => return false,
@@ -241,7 +227,8 @@ fn scan(octets: &[u8], verdict: &Verdict, depth: u8, from: usize, to: usize, fou
             break;
         };
         has |= header.vendor == verdict.vendor && header.code == verdict.code;
-        if dictionary_of(octets).has_group(header.vendor, header.code) && depth < 4 {
+        let group = Kind::of(header.vendor, header.code).is_some_and(|k| rows::of_group(k).is_some());
+        if group && depth < 4 {
             inner.push((at + header.size, at + header.length));
         }
         at += header.padded();

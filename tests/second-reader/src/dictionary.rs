@@ -1,4 +1,4 @@
-//! The AVPs that 01 and request 12 of 02 name, with their widths and M rules, and which of them an application knows.
+//! The AVPs that 01 names, with their widths and M rules.
 
 /// Vendor 3GPP.
 pub const VENDOR_3GPP: u32 = 10_415;
@@ -26,33 +26,15 @@ macro_rules! must {
 }
 
 macro_rules! dictionary {
-    ([both] $($both:ident $both_vendor:tt $both_code:literal $both_form:ident $both_m:ident,)*
-     [nta] $($nta:ident $nta_vendor:tt $nta_code:literal $nta_form:ident $nta_m:ident,)*) => {
-        kinds! {
-            $($both $both_vendor $both_code $both_form $both_m,)*
-            $($nta $nta_vendor $nta_code $nta_form $nta_m,)*
-        }
-
-        impl Kind {
-            /// 01's AVPs, which both applications know.
-            pub const OF_BOTH: &'static [Kind] = &[$(Kind::$both),*];
-
-            /// The AVPs that Nta alone knows.
-            pub const OF_NTA: &'static [Kind] = &[$(Kind::$nta),*];
-        }
-    };
-}
-
-macro_rules! kinds {
     ($($kind:ident $vendor:tt $code:literal $form:ident $m:ident,)*) => {
-        /// An AVP that an application knows, by its name in the standards.
+        /// A known AVP, by its name in the standards.
         #[derive(Clone, Copy, Debug, PartialEq, Eq, PartialOrd, Ord)]
         #[repr(u8)]
         #[allow(missing_docs)]
         pub enum Kind { $($kind),* }
 
         impl Kind {
-            /// Every AVP that an application knows.
+            /// Every known AVP.
             pub const ALL: &'static [Kind] = &[$(Kind::$kind),*];
 
             /// Its vendor, 0 for none.
@@ -82,7 +64,6 @@ macro_rules! kinds {
 }
 
 dictionary! {
-    [both]
     // RFC 6733.
     AuthApplicationId             0 258 Four   M,
     AcctApplicationId             0 259 Four   M,
@@ -136,24 +117,16 @@ dictionary! {
     ReferenceId                   10415 4202 Octets M,
     TimeWindow                    10415 4204 Group  M,
     TransferPolicy                10415 4207 Group  M,
-    [nta]
-    AccessNetworkReports          10415 4210 Octets M,
-    EventConfiguration            10415 4211 Octets M,
-    EventConfigurationState       10415 4212 Four   M,
-    EventConfigurationStatus      10415 4213 Octets M,
-    EventReportingResults         10415 4214 Four   M,
-    EventReports                  10415 4215 Group  M,
-    ExtendedScefReferenceId       10415 4216 Four   M,
 }
 
-/// The AVPs without vendor, each at its code. A load finds one; a `match` on codes that lie so far
-/// apart is a search with a jump.
+/// The known AVPs without vendor, each at its code. A load finds one; a `match` on codes that lie so
+/// far apart is a search with a jump.
 static WITHOUT_VENDOR: [Option<Kind>; 651] = by_code(0);
 
-/// The AVPs of 3GPP, each at its code.
-static OF_3GPP: [Option<Kind>; 4_217] = by_code(VENDOR_3GPP);
+/// The known AVPs of 3GPP, each at its code.
+static OF_3GPP: [Option<Kind>; 4_210] = by_code(VENDOR_3GPP);
 
-/// The AVPs of a vendor, each at its code.
+/// The known AVPs of a vendor, each at its code.
 const fn by_code<const CODES: usize>(vendor: u32) -> [Option<Kind>; CODES] {
     let mut kinds = [None; CODES];
     let mut i = 0;
@@ -168,7 +141,7 @@ const fn by_code<const CODES: usize>(vendor: u32) -> [Option<Kind>; CODES] {
 }
 
 impl Kind {
-    /// The AVP with this vendor (0 without V) and code, if an application knows it.
+    /// The AVP with this vendor (0 without V) and code, if it is known.
     #[inline]
     pub fn of(vendor: u32, code: u32) -> Option<Kind> {
         let kinds: &[Option<Kind>] = match vendor {
@@ -180,39 +153,13 @@ impl Kind {
     }
 }
 
-/// The AVPs that an application knows: this many of [`Kind::ALL`], from the first on.
-#[derive(Clone, Copy, Debug)]
-pub struct Dictionary(usize);
-
-impl Dictionary {
-    /// 01's.
-    pub const NT: Dictionary = Dictionary(Kind::OF_BOTH.len());
-
-    /// 01's, and those that request 12 of 02 adds.
-    pub const NTA: Dictionary = Dictionary(Kind::ALL.len());
-
-    /// None.
-    pub const EMPTY: Dictionary = Dictionary(0);
-
-    /// The AVP with this vendor (0 without V) and code, if it is known.
-    #[inline]
-    pub fn kind(self, vendor: u32, code: u32) -> Option<Kind> {
-        Kind::of(vendor, code).filter(|&kind| (kind as usize) < self.0)
-    }
-
-    /// Whether this vendor and code name a read group.
-    pub fn has_group(self, vendor: u32, code: u32) -> bool {
-        self.kind(vendor, code).is_some_and(|kind| kind.form() == Form::Group)
-    }
-}
-
 /// The volumes of a transfer's directions.
 pub const DIRECTIONS: [Kind; 2] = [Kind::CcOutputOctets, Kind::CcInputOctets];
 
 /// The volumes of a transfer: of its directions, and the total.
 pub const VOLUMES: [Kind; 3] = [Kind::CcOutputOctets, Kind::CcInputOctets, Kind::CcTotalOctets];
 
-/// A set of AVPs, one bit for each.
+/// A set of known AVPs, one bit for each.
 #[derive(Clone, Copy, Debug, Default, PartialEq, Eq)]
 pub struct Kinds(u64);
 
@@ -251,20 +198,15 @@ impl Kinds {
 
 #[cfg(test)]
 mod tests {
-    use super::*;
+    use super::{Kind, VENDOR_3GPP};
 
     #[test]
-    fn a_name_is_known_exactly_if_a_kind_of_the_application_has_it() {
-        for (dictionary, kinds) in
-            [(Dictionary::NT, Kind::OF_BOTH), (Dictionary::NTA, Kind::ALL), (Dictionary::EMPTY, &[])]
-        {
-            for vendor in [0, 1, VENDOR_3GPP - 1, VENDOR_3GPP, VENDOR_3GPP + 1, u32::MAX] {
-                for code in (0..5_000).chain([u32::MAX - 1, u32::MAX]) {
-                    let named = kinds.iter().find(|kind| (kind.vendor(), kind.code()) == (vendor, code));
-                    assert_eq!(dictionary.kind(vendor, code).as_ref(), named, "{vendor} {code}");
-                }
+    fn a_name_is_known_exactly_if_a_kind_has_it() {
+        for vendor in [0, 1, VENDOR_3GPP - 1, VENDOR_3GPP, VENDOR_3GPP + 1, u32::MAX] {
+            for code in (0..5_000).chain([u32::MAX - 1, u32::MAX]) {
+                let named = Kind::ALL.iter().find(|kind| (kind.vendor(), kind.code()) == (vendor, code));
+                assert_eq!(Kind::of(vendor, code).as_ref(), named, "{vendor} {code}");
             }
         }
-        assert_eq!((Kind::OF_BOTH.len(), Kind::OF_NTA.len(), Kind::ALL.len()), (48, 7, 55));
     }
 }

@@ -1,10 +1,11 @@
 //! A draft for the writer: the numbers of a record, which may be any, over lent octets.
 
 use crate::avp::padded;
-use crate::dictionary::Dictionary;
-use crate::layout::{Field, Head, HEAD_NUMBERS, PLACE_NUMBERS, RECORD_NUMBERS};
-use crate::profile;
+use crate::dictionary::{Form, Kind};
 use crate::record::{Avp, Record, MOST_AVPS};
+
+/// The numbers of a record: seven for the command, then seven for each place.
+pub const RECORD_NUMBERS: usize = 7 + 7 * MOST_AVPS;
 
 /// A place for one AVP; all 0 where it is unused.
 #[derive(Clone, Copy, Debug, Default, PartialEq, Eq, Hash)]
@@ -36,10 +37,6 @@ pub struct Draft {
     pub e: u32,
     /// Potentially retransmitted.
     pub t: u32,
-    /// The command code.
-    pub command_code: u32,
-    /// The application, which chooses the read groups.
-    pub application: u32,
     /// Hop-by-hop identifier.
     pub hop_by_hop: u32,
     /// End-to-end identifier.
@@ -51,9 +48,9 @@ pub struct Draft {
 }
 
 impl Place {
-    /// Whether this names a read group of an application with this dictionary.
-    pub fn is_group(&self, dictionary: Dictionary) -> bool {
-        dictionary.has_group(self.vendor, self.code)
+    /// Whether this names a read group.
+    pub fn is_group(&self) -> bool {
+        Kind::of(self.vendor, self.code).is_some_and(|kind| kind.form() == Form::Group)
     }
 
     /// Octets of the AVP's header.
@@ -70,31 +67,9 @@ impl Place {
         padded((self.header() + u64::from(self.length)) as usize) as u64
     }
 
-    /// The number of this name.
-    pub fn number_mut(&mut self, field: Field) -> &mut u32 {
-        match field {
-            Field::Depth => &mut self.depth,
-            Field::Vendor => &mut self.vendor,
-            Field::Code => &mut self.code,
-            Field::M => &mut self.m,
-            Field::P => &mut self.p,
-            Field::Start => &mut self.start,
-            Field::Length => &mut self.length,
-        }
-    }
-
-    /// The place that has these numbers.
-    pub fn of(numbers: [u32; PLACE_NUMBERS]) -> Place {
-        let mut place = Place::default();
-        for (field, number) in Field::ALL.into_iter().zip(numbers) {
-            *place.number_mut(field) = number;
-        }
-        place
-    }
-
-    /// Its numbers in the record's order.
-    pub fn numbers(mut self) -> [u32; PLACE_NUMBERS] {
-        Field::ALL.map(|field| *self.number_mut(field))
+    /// The seven numbers in the record's order.
+    pub fn numbers(&self) -> [u32; 7] {
+        [self.depth, self.vendor, self.code, self.m, self.p, self.start, self.length]
     }
 }
 
@@ -116,8 +91,6 @@ impl Draft {
             p: record.p.into(),
             e: record.e.into(),
             t: record.t.into(),
-            command_code: record.command_code,
-            application: record.application,
             hop_by_hop: record.hop_by_hop,
             end_to_end: record.end_to_end,
             count: record.avps.len() as u32,
@@ -133,17 +106,10 @@ impl Draft {
             p: self.p == 1,
             e: self.e == 1,
             t: self.t == 1,
-            command_code: self.command_code,
-            application: self.application,
             hop_by_hop: self.hop_by_hop,
             end_to_end: self.end_to_end,
             avps: self.used().iter().map(Avp::from).collect(),
         }
-    }
-
-    /// The AVPs that the draft's application knows, its read groups among them.
-    pub fn dictionary(&self) -> Dictionary {
-        profile::dictionary(self.application)
     }
 
     /// The used places, of a count above 256 all.
@@ -168,27 +134,12 @@ impl Draft {
         self.count -= number as u32;
     }
 
-    /// The number of the command of this name.
-    pub fn number(&self, number: Head) -> u32 {
-        match number {
-            Head::R => self.r,
-            Head::P => self.p,
-            Head::E => self.e,
-            Head::T => self.t,
-            Head::CommandCode => self.command_code,
-            Head::Application => self.application,
-            Head::HopByHop => self.hop_by_hop,
-            Head::EndToEnd => self.end_to_end,
-            Head::Count => self.count,
-        }
-    }
-
-    /// All numbers: those of the command, then those of each place.
+    /// All numbers: R, P, E, T, both identifiers and the count, then each place's seven.
     pub fn numbers(&self) -> [u32; RECORD_NUMBERS] {
         let mut numbers = [0; RECORD_NUMBERS];
-        let (head, places) = numbers.split_at_mut(HEAD_NUMBERS);
-        head.copy_from_slice(&Head::ALL.map(|number| self.number(number)));
-        for (numbers, place) in places.chunks_exact_mut(PLACE_NUMBERS).zip(self.places.iter()) {
+        let (head, places) = numbers.split_at_mut(7);
+        head.copy_from_slice(&[self.r, self.p, self.e, self.t, self.hop_by_hop, self.end_to_end, self.count]);
+        for (numbers, place) in places.chunks_exact_mut(7).zip(self.places.iter()) {
             numbers.copy_from_slice(&place.numbers());
         }
         numbers

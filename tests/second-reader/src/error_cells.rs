@@ -1,12 +1,11 @@
-//! The cells of Nt's error answers, request 1 of 02: by their flags, by each row of the general form and each AVP that
-//! has no row there, by the exchange rules that are not asked of them, by their groups and windows, and by the order of
-//! the checks. The rows are named here once more, not taken from the table that judges by them: a row too many or too
-//! few there leaves a cell empty.
+//! The cells of error answers, request 1 of 02: by their flags, by each row of the general form and each AVP that has
+//! no row there, by the exchange rules that are not asked of them, by their groups and windows, and by the order of the
+//! checks. The rows are named here once more, not taken from the table that judges by them: a row too many or too few
+//! there leaves a cell empty.
 
 use crate::dictionary::{Kind, VENDOR_3GPP};
 use crate::rows;
 use crate::verdict::number;
-use crate::walked::POLICY_LACKS;
 use Kind::*;
 
 /// The codes, without vendor, that stand at most once.
@@ -118,6 +117,9 @@ const WALK: [u32; 6] = [
 /// The numbers of 268 that are looked for: none that is assigned, of a success, of a protocol error, of failures.
 pub(crate) const RESULTS: [u32; 5] = [0, 2001, 3008, 4002, 5005];
 
+/// What BTA's exchange rules ask for beside a 4207, and in it.
+pub(crate) const POLICY_LACKS: [Kind; 4] = [ReferenceId, PcrfAddress, TimeWindow, RatingGroup];
+
 /// The groups that admit a window.
 const HOLDERS: [Kind; 4] = [ProxyInfo, SupportedFeatures, TimeWindow, TransferPolicy];
 
@@ -141,7 +143,7 @@ impl Cell {
             cells.push(Missing(kind));
             cells.extend(REQUIRED[at + 1..].iter().map(|&other| MissingBefore(kind, other)));
         }
-        for &kind in Kind::OF_BOTH {
+        for &kind in Kind::ALL {
             cells.push(if is_single(kind) { Exceeding(kind) } else { Times(kind, 2) });
         }
         for kind in [VendorSpecificApplicationId, AuthSessionState] {
@@ -154,7 +156,7 @@ impl Cell {
         cells.extend([0, 1].map(RequestType));
         cells.extend(WALK.map(Walk));
         cells.extend([AuthSessionState, TransferRequestType].map(Value));
-        for &kind in Kind::OF_BOTH {
+        for &kind in Kind::ALL {
             if let Some(rows) = rows::of_group(kind) {
                 cells.extend([number::MISSING_AVP, number::AVP_OCCURS_TOO_MANY_TIMES].map(|n| Group(kind, n)));
                 cells.extend((!rows.open).then_some(Group(kind, number::AVP_NOT_ALLOWED)));

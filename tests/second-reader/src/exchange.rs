@@ -1,5 +1,5 @@
-//! Nt's exchange rules of clause 4.4.1, request 2 of 02 among them, on the command's own list, and the windows, which
-//! alone are asked of an error answer. Nta has none.
+//! The exchange rules of clause 4.4.1, request 2 of 02 among them, on the command's own list, and the windows, which
+//! alone are asked of an error answer.
 
 use crate::avp::AvpHeader;
 use crate::dictionary::{Kind, Kinds, DIRECTIONS};
@@ -68,7 +68,7 @@ fn not_allowed(kind: Kind, place: usize) -> Verdict {
 fn place(octets: &[u8], kind: Kind) -> usize {
     let mut at = HEADER;
     while let Ok(header) = AvpHeader::read(&octets[at..], at) {
-        if (header.vendor, header.code) == (kind.vendor(), kind.code()) {
+        if Kind::of(header.vendor, header.code) == Some(kind) {
             break;
         }
         at += header.padded();

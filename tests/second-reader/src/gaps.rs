@@ -1,13 +1,13 @@
 //! What a run must have reached: each number, each of the walk's checks at each depth, each row's missing and
-//! exceeding, each exchange rule, and the cells of volumes, windows, error answers and Nta. A run that lacks one has
-//! tested less than it says.
+//! exceeding, each exchange rule, and the cells of volumes, windows and error answers. A run that lacks one has tested
+//! less than it says.
 
 use crate::coverage::Coverage;
 use crate::dictionary::Kind;
 use crate::header::Command::{self, *};
 use crate::rows::{self, Rows};
 use crate::verdict::number;
-use crate::{error_coverage, nta_coverage, profile, volume_coverage, window_coverage};
+use crate::{error_coverage, volume_coverage, window_coverage};
 use std::ops::RangeInclusive;
 
 /// The depth of a command's own list, and those of a group's members.
@@ -68,11 +68,9 @@ impl Coverage {
             }
         }
         for command in Command::ALL {
-            if let Some(rows) = profile::NT.rows(profile::TRANSFER) {
-                self.row_gaps(&format!("{command:?}"), rows.of(command), &[command], OWN, &mut gaps);
-            }
+            self.row_gaps(&format!("{command:?}"), rows::of_command(command), &[command], OWN, &mut gaps);
         }
-        for &kind in Kind::OF_BOTH {
+        for &kind in Kind::ALL {
             if let Some(rows) = rows::of_group(kind) {
                 self.row_gaps(&kind.code().to_string(), rows, &Command::ALL, WITHIN, &mut gaps);
             }
@@ -97,11 +95,6 @@ impl Coverage {
                 gaps.push(format!("error answers: {cell:?}"));
             }
         }
-        for cell in nta_coverage::Cell::all() {
-            if self.times_nta(cell) == 0 {
-                gaps.push(format!("Nta: {cell:?}"));
-            }
-        }
         gaps
     }
 
@@ -117,7 +110,7 @@ impl Coverage {
         let times = |number, kind| -> u64 {
             commands.iter().map(|&command| self.times_named(command, number, kind, depths.clone())).sum()
         };
-        for &kind in Kind::OF_BOTH {
+        for &kind in Kind::ALL {
             if rows.needed.has(kind) && times(number::MISSING_AVP, kind) == 0 {
                 gaps.push(format!("{list}: {} missing", kind.code()));
             }

@@ -1,27 +1,27 @@
 //! The command header: 20 octets.
 
-use crate::profile::Profile;
-use crate::rows::Rows;
 use crate::verdict::{number, Verdict};
 
 /// Octets of a command header.
 pub const HEADER: usize = 20;
 /// The longest command that is read.
 pub const LONGEST_COMMAND: usize = 16_384;
-/// The largest command code: it has three octets.
-pub const LARGEST_CODE: u32 = 0xFF_FFFF;
+/// Background-Data-Transfer.
+pub const COMMAND_CODE: u32 = 8_388_723;
+/// The Nt application.
+pub const APPLICATION: u32 = 16_777_348;
 
 const R: u8 = 0x80;
 const P: u8 = 0x40;
 const E: u8 = 0x20;
 const T: u8 = 0x10;
 
-/// What a command is by its flags: each has rows and, in Nt, exchange rules of its own.
+/// What a command is: each has rows and exchange rules of its own.
 #[derive(Clone, Copy, Debug, PartialEq, Eq, PartialOrd, Ord)]
 pub enum Command {
-    /// R set.
+    /// BTR: R set.
     Request,
-    /// R and E clear.
+    /// BTA: R and E clear.
     Answer,
     /// An answer with E, request 1 of 02.
     ErrorAnswer,
@@ -44,11 +44,6 @@ impl Command {
 /// What a sound header says.
 #[derive(Clone, Copy, Debug)]
 pub struct Header {
-    /// The application's profile.
-    pub profile: &'static Profile,
-    /// The rows of the command's own list.
-    pub rows: &'static Rows,
-    pub code: u32,
     pub r: bool,
     pub p: bool,
     pub e: bool,
@@ -83,25 +78,20 @@ pub fn read(octets: &[u8]) -> Result<Header, Verdict> {
     if length > LONGEST_COMMAND {
         return refuse(number::COMMAND_TOO_LONG, 1);
     }
-    let Some(profile) = Profile::of(word(8)) else {
+    if word(8) != APPLICATION {
         return refuse(number::APPLICATION_UNSUPPORTED, 8);
-    };
-    let code = word(4) & LARGEST_CODE;
-    let Some(rows) = profile.rows(code) else {
+    }
+    if word(4) & 0xFF_FFFF != COMMAND_CODE {
         return refuse(number::COMMAND_UNSUPPORTED, 5);
-    };
+    }
     // P may be clear in an error answer alone.
     if flags & (R | E) == R | E || flags & (P | E) == 0 {
         return refuse(number::INVALID_HEADER_BITS, 4);
     }
-    let (r, e) = (flags & R != 0, flags & E != 0);
     Ok(Header {
-        profile,
-        rows: rows.of(Command::of(r, e)),
-        code,
-        r,
+        r: flags & R != 0,
         p: flags & P != 0,
-        e,
+        e: flags & E != 0,
         t: flags & T != 0,
         hop_by_hop: word(12),
         end_to_end: word(16),

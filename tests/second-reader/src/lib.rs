@@ -1,6 +1,5 @@
-//! An independent reader and writer of the commands of two Diameter applications, Nt
-//! (Background-Data-Transfer) and Nta (event configuration and reporting), each with requests,
-//! answers and error answers; written from documents 01 and 02 and their readings alone.
+//! An independent reader and writer of Diameter Nt commands (Background-Data-Transfer request,
+//! answer and error answer), written from documents 01 and 02 and their readings alone.
 //!
 //! One pass over the octets decides everything: the walk counts rows and gathers what the
 //! exchange rules need while it goes, so [`verdict()`] allocates nothing.
@@ -19,13 +18,9 @@ mod exchange;
 mod gaps;
 pub mod generate;
 mod header;
-pub mod layout;
 pub mod link;
 pub mod links;
 pub mod meaning;
-mod nta_cells;
-pub mod nta_coverage;
-pub mod profile;
 pub mod properties;
 mod record;
 pub mod rows;
@@ -79,8 +74,6 @@ pub fn read_into(octets: &[u8], record: &mut Record) -> Verdict {
             record.p = header.p;
             record.e = header.e;
             record.t = header.t;
-            record.command_code = header.code;
-            record.application = header.profile.application;
             record.hop_by_hop = header.hop_by_hop;
             record.end_to_end = header.end_to_end;
             Verdict::ACCEPTED
@@ -103,12 +96,11 @@ pub fn verdict(octets: &[u8]) -> Verdict {
 /// Header, walk, rows, exchange rules: the first that applies is the answer.
 fn judge(octets: &[u8], keep: &mut impl Keep) -> Result<Header, Verdict> {
     let header = header::read(octets)?;
-    let found = walk::walk(octets, &header, keep)?;
+    let command = header.command();
+    let found = walk::walk(octets, command, keep)?;
     if let Some(fault) = found.row_fault {
         return Err(fault);
     }
-    if header.profile.has_exchange_rules {
-        exchange::check(header.command(), &found, octets)?;
-    }
+    exchange::check(command, &found, octets)?;
     Ok(header)
 }

@@ -2,19 +2,15 @@
 //! commands agree.
 
 use crate::avp::AvpHeader;
+use crate::dictionary::{Form, Kind};
 use crate::draft::{Draft, Place};
-use crate::header::{HEADER, LARGEST_CODE};
-use crate::profile::dictionary_of;
+use crate::header::HEADER;
 
 /// What two commands or drafts have in common where 01 counts them as one.
 #[derive(Clone, Debug, PartialEq, Eq, Hash)]
 pub struct Meaning {
     /// R, P, E, T.
     pub flags: [bool; 4],
-    /// Command code.
-    pub code: u32,
-    /// Application.
-    pub application: u32,
     /// Hop-by-hop and end-to-end identifier.
     pub identifiers: [u32; 2],
     /// The AVPs in walk order.
@@ -42,6 +38,7 @@ impl Meaning {
         if crate::verdict(octets).number != 0 {
             return None;
         }
+        let word = |at: usize| octets[at..at + 4].iter().fold(0, |word, &octet| word << 8 | u32::from(octet));
         let mut avps = Vec::new();
         walk(octets, |at, depth, header, group| {
             let data = &octets[at + header.size..at + header.length];
@@ -55,37 +52,26 @@ impl Meaning {
         });
         Some(Meaning {
             flags: [0x80, 0x40, 0x20, 0x10].map(|bit| octets[4] & bit != 0),
-            code: word(octets, 4) & LARGEST_CODE,
-            application: word(octets, 8),
-            identifiers: [word(octets, 12), word(octets, 16)],
+            identifiers: [word(12), word(16)],
             avps,
         })
     }
 
     /// The meaning of a draft that the writer accepts.
     pub fn of_draft(draft: &Draft, octets: &[u8]) -> Meaning {
-        let dictionary = draft.dictionary();
-        let is_plain = |place: &Place| !place.is_group(dictionary);
         let item = |place: &Place| Item {
             depth: place.depth,
             name: (place.vendor, place.code),
             flags: [place.m == 1, place.p == 1],
             length: place.length,
-            data: is_plain(place).then(|| octets[place.start as usize..][..place.length as usize].to_vec()),
+            data: (!place.is_group()).then(|| octets[place.start as usize..][..place.length as usize].to_vec()),
         };
         Meaning {
             flags: [draft.r, draft.p, draft.e, draft.t].map(|flag| flag == 1),
-            code: draft.command_code,
-            application: draft.application,
             identifiers: [draft.hop_by_hop, draft.end_to_end],
             avps: draft.used().iter().map(item).collect(),
         }
     }
-}
-
-/// The number in four octets.
-fn word(octets: &[u8], at: usize) -> u32 {
-    octets[at..at + 4].iter().fold(0, |word, &octet| word << 8 | u32::from(octet))
 }
 
 /// Whether two accepted commands agree: equally long, and the same in each octet that is padding
@@ -111,7 +97,6 @@ pub fn padding(octets: &[u8]) -> Vec<bool> {
 /// Goes through the AVPs of an accepted command in walk order: place, depth, header, and whether
 /// it is a read group.
 fn walk(octets: &[u8], mut visit: impl FnMut(usize, u32, &AvpHeader, bool)) {
-    let dictionary = dictionary_of(octets);
     let mut ends = vec![octets.len()];
     let mut at = HEADER;
     loop {
@@ -124,7 +109,7 @@ fn walk(octets: &[u8], mut visit: impl FnMut(usize, u32, &AvpHeader, bool)) {
         let Ok(header) = AvpHeader::read(&octets[at..end], at) else {
             return;
         };
-        let group = dictionary.has_group(header.vendor, header.code);
+        let group = Kind::of(header.vendor, header.code).is_some_and(|k| k.form() == Form::Group);
         visit(at, ends.len() as u32, &header, group);
         if group {
             ends.push(at + header.length);

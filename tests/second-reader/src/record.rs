@@ -33,10 +33,6 @@ pub struct Record {
     pub e: bool,
     /// Potentially retransmitted.
     pub t: bool,
-    /// The command code.
-    pub command_code: u32,
-    /// The application.
-    pub application: u32,
     /// Hop-by-hop identifier.
     pub hop_by_hop: u32,
     /// End-to-end identifier.

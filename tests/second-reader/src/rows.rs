@@ -1,6 +1,7 @@
 //! The rows of the commands and of the read groups, and the counting of members against them.
 
 use crate::dictionary::{Kind, Kinds};
+use crate::header::Command;
 use crate::verdict::{number, Verdict};
 use Kind::*;
 
@@ -82,50 +83,6 @@ pub static BTA: Rows = rows(
     true,
 );
 
-/// What both requests of Nta need: BTR's rows to 293?, then 4210.
-const NTA_REQUEST: &[Kind] = &[
-    SessionId,
-    VendorSpecificApplicationId,
-    AuthSessionState,
-    OriginHost,
-    OriginRealm,
-    DestinationRealm,
-    AccessNetworkReports,
-];
-
-/// Nta's request that configures events.
-pub static CONFIGURATION_REQUEST: Rows = rows(
-    NTA_REQUEST,
-    &[Drmp, DestinationHost, EventConfigurationState, ExtendedScefReferenceId],
-    &[EventConfiguration, ProxyInfo, RouteRecord],
-    true,
-);
-
-/// Nta's request that reports events.
-pub static REPORTING_REQUEST: Rows = rows(
-    NTA_REQUEST,
-    &[Drmp, DestinationHost, EventConfigurationStatus],
-    &[EventReports, ProxyInfo, RouteRecord],
-    true,
-);
-
-/// Both answers of Nta: BTA's rows to 262?.
-pub static NTA_ANSWER: Rows = rows(
-    &[SessionId, VendorSpecificApplicationId, AuthSessionState, OriginHost, OriginRealm],
-    &[
-        Drmp,
-        ResultCode,
-        ExperimentalResult,
-        ErrorMessage,
-        ErrorReportingHost,
-        FailedAvp,
-        RedirectHostUsage,
-        RedirectMaxCacheTime,
-    ],
-    &[RedirectHost, ProxyInfo, RouteRecord],
-    true,
-);
-
 /// An answer with E: the general form of RFC 6733 clause 7.2, as request 1 of 02 lists it.
 pub static ERROR_ANSWER: Rows = rows(
     &[OriginHost, OriginRealm, ResultCode],
@@ -134,6 +91,16 @@ pub static ERROR_ANSWER: Rows = rows(
     true,
 );
 
+/// The rows of a command's own list.
+#[inline]
+pub fn of_command(command: Command) -> &'static Rows {
+    match command {
+        Command::Request => &BTR,
+        Command::Answer => &BTA,
+        Command::ErrorAnswer => &ERROR_ANSWER,
+    }
+}
+
 static VENDOR_SPECIFIC_APPLICATION_ID: Rows = rows(&[VendorId], &[AuthApplicationId, AcctApplicationId], &[], false);
 static EXPERIMENTAL_RESULT: Rows = rows(&[VendorId, ExperimentalResultCode], &[], &[], false);
 static PROXY_INFO: Rows = rows(&[ProxyHost, ProxyState], &[], &[], true);
@@ -141,7 +108,6 @@ static SUPPORTED_FEATURES: Rows = rows(&[VendorId, FeatureListId, FeatureList], 
 static TIME_WINDOW: Rows = rows(&[TransferStartTime, TransferEndTime], &[], &[], true);
 static TRANSFER_POLICY: Rows =
     rows(&[TransferPolicyId], &[TimeWindow, RatingGroup, MaxRequestedBandwidthDl, MaxRequestedBandwidthUl], &[], true);
-static EVENT_REPORTS: Rows = rows(&[EventConfiguration], &[EventReportingResults], &[], true);
 
 /// The rows of a read group; none for any other AVP.
 #[inline]
@@ -153,7 +119,6 @@ pub fn of_group(kind: Kind) -> Option<&'static Rows> {
         SupportedFeatures => Some(&SUPPORTED_FEATURES),
         TimeWindow => Some(&TIME_WINDOW),
         TransferPolicy => Some(&TRANSFER_POLICY),
-        EventReports => Some(&EVENT_REPORTS),
         _ => None,
     }
 }

@@ -2,7 +2,6 @@
 
 use crate::draft::{avps, Draft, Place};
 use crate::generate::drafts::{settle, Case};
-use crate::layout::{Field, Head};
 use std::fmt::{self, Display, Formatter};
 
 /// Octets that are shown.
@@ -79,7 +78,7 @@ fn drop_place(case: &mut Case, at: usize, settles: bool) {
     if at < draft.used().len() {
         draft.remove(at, 1);
         if settles {
-            settle(draft);
+            settle(draft.used_mut());
         }
     }
 }
@@ -89,7 +88,7 @@ fn drop_avp(case: &mut Case, at: usize) {
     let draft = &mut case.draft;
     if at < draft.used().len() {
         draft.remove(at, 1 + members(draft, at));
-        settle(draft);
+        settle(draft.used_mut());
     }
 }
 
@@ -101,7 +100,6 @@ fn members(draft: &Draft, at: usize) -> usize {
 /// Gives the octets of the AVP at `at` and of its members to a plain one before it in its list: the command is as long.
 fn absorb(case: &mut Case, at: usize) {
     let draft = &mut case.draft;
-    let dictionary = draft.dictionary();
     let Some((place, members)) = draft.used().get(at..).and_then(|rest| avps(rest).next()) else {
         return;
     };
@@ -109,7 +107,7 @@ fn absorb(case: &mut Case, at: usize) {
     let Some(before) = at.checked_sub(1).map(|at| &mut draft.places[at]) else {
         return;
     };
-    if !before.is_group(dictionary) && before.depth == depth {
+    if !before.is_group() && before.depth == depth {
         before.length = (before.padded() - before.header() + length) as u32;
         before.start = 0;
         draft.remove(at, gone);
@@ -122,14 +120,14 @@ fn copy_place(case: &mut Case, at: usize, settles: bool) {
     let before = case.draft.places[at - 1];
     case.draft.places[at..=last].fill(before);
     if settles {
-        settle(&mut case.draft);
+        settle(case.draft.used_mut());
     }
 }
 
 fn set_length(case: &mut Case, at: usize, length: u32, settles: bool) {
     case.draft.places[at].length = length;
     if settles {
-        settle(&mut case.draft);
+        settle(case.draft.used_mut());
     }
 }
 
@@ -155,8 +153,12 @@ pub struct ShownDraft<'a>(pub &'a Draft);
 impl Display for ShownDraft<'_> {
     fn fmt(&self, f: &mut Formatter<'_>) -> fmt::Result {
         let draft = self.0;
-        Head::ALL.iter().try_for_each(|&number| write!(f, "{number:?} {} ", draft.number(number)))?;
-        writeln!(f, "\nposition: {:?}", Field::ALL)?;
+        writeln!(
+            f,
+            "R {} P {} E {} T {} hop-by-hop {} end-to-end {} count {}",
+            draft.r, draft.p, draft.e, draft.t, draft.hop_by_hop, draft.end_to_end, draft.count
+        )?;
+        writeln!(f, "position: depth vendor code M P start length")?;
         let mut first = 0;
         for run in draft.places.chunk_by(|a, b| a == b) {
             let last = first + run.len() - 1;

@@ -1,12 +1,10 @@
-//! What a run of canonical forms reached: acceptance and 7004 by room, error answers, each command of
-//! both applications, each of the reader's refusals with and without room, and pairs of commands by
-//! what they differ in. A run that lacks a cell has tested less than it says.
+//! What a run of canonical forms reached: acceptance and 7004 by room, error answers, each of the
+//! reader's refusals with and without room, and pairs of commands by what they differ in. A run that
+//! lacks a cell has tested less than it says.
 
 use crate::generate::drafts::{room, Room};
 use crate::generate::lists::{Change, Twins, CHANGES};
-use crate::header::Command;
 use crate::meaning::padding;
-use crate::nta_coverage::Code;
 use crate::verdict::number;
 use crate::writer::Written;
 use std::collections::BTreeMap;
@@ -23,8 +21,6 @@ pub enum Cell {
     ReservedBits,
     /// A form of an error answer, and whether P is set.
     ErrorAnswer(bool),
-    /// A form of a command with this code, by its flags.
-    Of(Code, Command),
     /// 7004.
     TooShort(Room),
     /// The reader's refusal, and whether the room is too short as well.
@@ -39,9 +35,6 @@ impl Cell {
         let mut cells: Vec<Cell> = Room::ENOUGH.map(Cell::Accepted).into();
         cells.extend([Cell::Padding, Cell::ReservedBits]);
         cells.extend([true, false].map(Cell::ErrorAnswer));
-        for code in [Code::Transfer, Code::Configuration, Code::Reporting] {
-            cells.extend(Command::ALL.map(|command| Cell::Of(code, command)));
-        }
         cells.extend(Room::TOO_SHORT.map(Cell::TooShort));
         for number in number::ALL.into_iter().filter(|&number| number != number::ACCEPTED) {
             cells.extend([true, false].map(|short| Cell::Refused(number, short)));
@@ -76,8 +69,6 @@ impl StateCoverage {
                 if octets[4] & 0x20 != 0 {
                     self.count(Cell::ErrorAnswer(octets[4] & 0x40 != 0));
                 }
-                let command = Command::of(octets[4] & 0x80 != 0, octets[4] & 0x20 != 0);
-                self.count(Cell::Of(Code::of_command(octets), command));
             }
             number::OUTPUT_TOO_SHORT => self.count(Cell::TooShort(room)),
             number => self.count(Cell::Refused(number, output < octets.len())),

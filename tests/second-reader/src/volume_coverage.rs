@@ -77,9 +77,9 @@ impl Cell {
     }
 }
 
-/// The cells that a command with this verdict reaches: none of Nta's does.
+/// The cells that a command with this verdict reaches.
 pub(crate) fn cells(walked: &Walked, verdict: &Verdict) -> Vec<Cell> {
-    let Some(found) = walked.found.as_ref().filter(|_| walked.is_of_nt()) else {
+    let Some(found) = &walked.found else {
         return Vec::new();
     };
     let volumes = walked.avps.iter().filter(|avp| VOLUMES.into_iter().any(|kind| names(avp, kind)));
@@ -148,7 +148,7 @@ fn apart(own: &[Kind], inner: &[Kind], verdict: &Verdict) -> Option<Cell> {
 }
 
 fn kinds(avps: &[Avp]) -> Vec<Kind> {
-    avps.iter().filter_map(|avp| VOLUMES.into_iter().find(|&kind| names(avp, kind))).collect()
+    avps.iter().filter_map(|avp| Kind::of(avp.vendor, avp.code)).collect()
 }
 
 fn is_volume(verdict: &Verdict) -> bool {

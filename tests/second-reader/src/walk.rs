@@ -4,8 +4,8 @@
 //! only remembers the row fault whose list starts first; likewise for windows and policies.
 
 use crate::avp::AvpHeader;
-use crate::dictionary::{Dictionary, Form, Kind, Kinds};
-use crate::header::{Header, HEADER};
+use crate::dictionary::{Form, Kind, Kinds};
+use crate::header::{Command, HEADER};
 use crate::record::{Avp, MOST_AVPS};
 use crate::rows::{self, missing, Members, Rows};
 use crate::time;
@@ -62,19 +62,18 @@ pub struct Found {
     pub seen: Kinds,
 }
 
-/// Walks the command that fills `octets` and has this header.
-pub fn walk(octets: &[u8], header: &Header, keep: &mut impl Keep) -> Result<Found, Verdict> {
+/// Walks the command that fills `octets`; the rows of its own list are those of `command`.
+pub fn walk(octets: &[u8], command: Command, keep: &mut impl Keep) -> Result<Found, Verdict> {
     keep.expect(octets.len() - HEADER);
     let mut walk = Walk {
         octets,
-        dictionary: header.profile.dictionary,
         keep,
         count: 0,
         rows: Earliest::default(),
         windows: Earliest::default(),
         found: Found::default(),
     };
-    walk.found.seen = walk.list(header.rows, 1, HEADER, octets.len())?.seen;
+    walk.found.seen = walk.list(rows::of_command(command), 1, HEADER, octets.len())?.seen;
     walk.found.row_fault = walk.rows.fault;
     walk.found.window_fault = walk.windows.fault;
     Ok(walk.found)
@@ -82,7 +81,6 @@ pub fn walk(octets: &[u8], header: &Header, keep: &mut impl Keep) -> Result<Foun
 
 struct Walk<'a, K> {
     octets: &'a [u8],
-    dictionary: Dictionary,
     keep: &'a mut K,
     count: usize,
     rows: Earliest,
@@ -111,7 +109,7 @@ impl<K: Keep> Walk<'_, K> {
             }
             let header = AvpHeader::read(&self.octets[at..to], at)?;
             let refuse = |number| Err(Verdict::named(number, at, header.vendor, header.code));
-            let kind = self.dictionary.kind(header.vendor, header.code);
+            let kind = Kind::of(header.vendor, header.code);
             if header.has_wrong_bits() || (!header.m() && kind.is_some_and(Kind::must)) {
                 return refuse(number::INVALID_AVP_BITS);
             }

@@ -198,11 +198,8 @@ impl Window {
     }
 }
 
-/// The cells that a command with this verdict reaches: none of Nta's does.
+/// The cells that a command with this verdict reaches.
 pub(crate) fn cells(walked: &Walked, verdict: &Verdict) -> Vec<Cell> {
-    if !walked.is_of_nt() {
-        return Vec::new();
-    }
     let windows = windows(walked);
     let wrong = windows.iter().any(Window::is_wrong);
     let Some(found) = &walked.found else {
@@ -240,11 +237,6 @@ pub(crate) fn holders(walked: &Walked) -> Vec<Option<Kind>> {
     windows(walked).iter().map(|window| window.holder).collect()
 }
 
-/// The group that each wrong window stands in, if any.
-pub(crate) fn wrong_holders(walked: &Walked) -> Vec<Option<Kind>> {
-    windows(walked).iter().filter(|window| window.is_wrong()).map(|window| window.holder).collect()
-}
-
 /// The group, if any, that the window stands in which this verdict refuses.
 pub(crate) fn holder_at_fault(walked: &Walked, verdict: &Verdict) -> Option<Option<Kind>> {
     let at_fault = |window: &Window| window.end_at == verdict.place + TIME_HEADER;
@@ -265,7 +257,7 @@ fn windows(walked: &Walked) -> Vec<Window> {
         let nested = successors(holder, |&at| crate::walked::holder(avps, at)).any(|at| names(&avps[at], TimeWindow));
         Some(Window {
             depth: avp.depth,
-            holder: holder.and_then(|at| walked.kind(&avps[at])),
+            holder: holder.and_then(|at| Kind::of(avps[at].vendor, avps[at].code)),
             nested,
             start: walked.value(start),
             end: walked.value(end),

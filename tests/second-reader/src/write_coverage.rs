@@ -1,29 +1,23 @@
 //! What a run of write calls reached: each of 7006's ways, 7001 and 7004, each of the reader's
-//! refusals through the writer, and acceptance, by room, the read groups of each application, and
-//! the cells of volumes, windows, error answers and Nta. A run that lacks a cell has tested less than
-//! it says.
+//! refusals through the writer, and acceptance, by room, and the cells of volumes, windows and error
+//! answers. A run that lacks a cell has tested less than it says.
 
-use crate::dictionary::Dictionary;
 use crate::draft::{Draft, Place};
 use crate::generate::drafts::{is_accepted, room, Case, Origin, Room, Way};
 use crate::header::LONGEST_COMMAND;
-use crate::nta_coverage::{self, Application};
-use crate::profile::{dictionary, NTA_APPLICATION, NT_APPLICATION};
 use crate::record::MOST_AVPS;
 use crate::verdict::number;
 use crate::walked::Walked;
-use crate::writer::{encode, is_malformed_by, length, Written};
+use crate::writer::{encode, length, Written};
 use crate::{error_coverage, volume_coverage, window_coverage};
 use std::collections::BTreeMap;
 use std::fmt::{self, Display, Formatter};
 
-/// The reader's refusals that a writer can meet. Version and length of what is written are always
-/// right (no 5011, 5015); a walk meets the draft's AVPs and no others, of which there are at most
-/// 256 (no 7002), and the reader's 7001 comes as the writer's. 5014 is for widths alone, 3009 for M
-/// alone.
-pub const READER: [u32; 11] = [
-    number::APPLICATION_UNSUPPORTED,
-    number::COMMAND_UNSUPPORTED,
+/// The reader's refusals that a writer can meet. Version, length, application and command code of
+/// what is written are always right (no 5011, 5015, 3007, 3001); a walk meets the draft's AVPs and
+/// no others, of which there are at most 256 (no 7002), and the reader's 7001 comes as the
+/// writer's. 5014 is for widths alone, 3009 for M alone.
+pub const READER: [u32; 9] = [
     number::INVALID_HEADER_BITS,
     number::INVALID_AVP_BITS,
     number::AVP_UNSUPPORTED,
@@ -94,15 +88,6 @@ pub enum Cell {
     Errors(error_coverage::Cell),
     /// Acceptance of an error answer of this origin, and whether P is set.
     ErrorAnswer(Origin, bool),
-    /// The reader's answer to what would be written, by request 12.
-    Nta(nta_coverage::Cell),
-    /// A draft for the first application, and whether it is malformed: by the read groups of the second it would be
-    /// otherwise.
-    Groups(Application, Application, bool),
-    /// 3001 of a draft for this application, and whether a read group has members.
-    ForeignCode(Application, bool),
-    /// Acceptance of a draft of this origin for this application.
-    AcceptedOf(Origin, Application),
 }
 
 impl Cell {
@@ -132,26 +117,8 @@ impl Cell {
         for p in [true, false] {
             cells.extend(Origin::SOUND.map(|origin| Cell::ErrorAnswer(origin, p)));
         }
-        let crowded = nta_coverage::Cell::Walk(number::TOO_MANY_AVPS);
-        cells.extend(nta_coverage::Cell::all().into_iter().filter(|&cell| cell != crowded).map(Cell::Nta));
-        cells.extend(by_application());
         cells
     }
-}
-
-/// The cells of a draft's application.
-fn by_application() -> Vec<Cell> {
-    let mut cells = Vec::new();
-    for of in Application::ALL {
-        for by in Application::ALL.into_iter().filter(|&by| by != of) {
-            cells.extend([true, false].map(|malformed| Cell::Groups(of, by, malformed)));
-        }
-    }
-    for of in [Application::Nt, Application::Nta] {
-        cells.extend([true, false].map(|groups| Cell::ForeignCode(of, groups)));
-        cells.extend(Origin::SOUND.map(|origin| Cell::AcceptedOf(origin, of)));
-    }
-    cells
 }
 
 /// Counts of cells.
@@ -188,48 +155,30 @@ fn cells(case: &Case, answer: &Written) -> Vec<Cell> {
             vec![Cell::MalformedAndTooLong]
         }
         number::MALFORMED_DRAFT if short => vec![Cell::MalformedAndTooShort],
-        number::MALFORMED_DRAFT => case.way.map(Cell::Malformed).into_iter().chain(groups(case, true)).collect(),
+        number::MALFORMED_DRAFT => case.way.map(Cell::Malformed).into_iter().collect(),
         number::COMMAND_TOO_LONG => vec![Cell::TooLong(excess(length), short)],
         number::OUTPUT_TOO_SHORT => vec![Cell::TooShort(room, !is_accepted(draft, octets))],
         number::ACCEPTED => {
             let features = features(draft, octets).into_iter().map(Cell::AcceptedWith);
             let error = (draft.e == 1).then_some(Cell::ErrorAnswer(case.origin, draft.p == 1));
-            let of = Application::of(draft.application);
-            let accepted = [Cell::Accepted(case.origin, room), Cell::AcceptedOf(case.origin, of)];
-            features.chain(rules(case, answer)).chain(accepted).chain(error).collect()
+            let accepted = [Cell::Accepted(case.origin, room)].into_iter().chain(error);
+            features.chain(rules(case, answer)).chain(accepted).collect()
         }
         number => rules(case, answer).into_iter().chain([Cell::Refused(number, room)]).collect(),
     }
 }
 
-/// The cells of volumes, windows, error answers and Nta, and of read groups.
+/// The cells of volumes, windows and error answers.
 fn rules(case: &Case, answer: &Written) -> Vec<Cell> {
     let command = encode(&case.draft, &case.octets);
-    let (walked, verdict) = (Walked::of(&command), &answer.verdict);
-    let mut cells = groups(case, false);
-    cells.extend(error_coverage::cells(&command, walked.as_ref(), verdict).into_iter().map(Cell::Errors));
-    cells.extend(nta_coverage::cells(&command, walked.as_ref(), verdict).into_iter().map(Cell::Nta));
-    if let Some(walked) = &walked {
-        cells.extend(volume_coverage::cells(walked, verdict).into_iter().map(Cell::Volumes));
-        cells.extend(window_coverage::cells(walked, verdict).into_iter().map(Cell::Windows));
-    }
-    if verdict.number == number::COMMAND_UNSUPPORTED {
-        let has_members = case.draft.used().iter().any(|place| place.depth > 1);
-        cells.push(Cell::ForeignCode(Application::of(case.draft.application), has_members));
-    }
-    cells
-}
-
-/// Where the read groups of another application would make a malformed draft of this one, or one that is none.
-fn groups(case: &Case, malformed: bool) -> Vec<Cell> {
-    let Case { draft, octets, .. } = case;
-    let of = Application::of(draft.application);
-    let others = [NT_APPLICATION, NTA_APPLICATION, 0].map(|by| (Application::of(by), dictionary(by)));
-    let is_one = |&(by, dictionary): &(Application, Dictionary)| {
-        let is_other_group = |place: &Place| place.is_group(dictionary) != place.is_group(draft.dictionary());
-        by != of && draft.used().iter().any(is_other_group) && is_malformed_by(draft, octets, dictionary) != malformed
+    let walked = Walked::of(&command);
+    let errors = error_coverage::cells(&command, walked.as_ref(), &answer.verdict).into_iter().map(Cell::Errors);
+    let Some(walked) = &walked else {
+        return errors.collect();
     };
-    others.into_iter().filter(is_one).map(|(by, _)| Cell::Groups(of, by, malformed)).collect()
+    let volumes = volume_coverage::cells(walked, &answer.verdict).into_iter().map(Cell::Volumes);
+    let windows = window_coverage::cells(walked, &answer.verdict).into_iter().map(Cell::Windows);
+    errors.chain(volumes).chain(windows).collect()
 }
 
 fn excess(length: u64) -> Excess {
@@ -246,8 +195,7 @@ fn excess(length: u64) -> Excess {
 
 fn features(draft: &Draft, octets: &[u8]) -> Vec<Feature> {
     let end = octets.len() as u32;
-    let dictionary = draft.dictionary();
-    let (groups, plain): (Vec<Place>, Vec<Place>) = draft.used().iter().partition(|place| place.is_group(dictionary));
+    let (groups, plain): (Vec<Place>, Vec<Place>) = draft.used().iter().partition(|place| place.is_group());
     let mut parts: Vec<(u32, u32)> =
         plain.iter().filter(|place| place.length > 0).map(|place| (place.start, place.start + place.length)).collect();
     parts.sort_unstable();

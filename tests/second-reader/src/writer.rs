@@ -1,10 +1,9 @@
-//! An independent writer: a draft into an output, from document 01's "The record and the writer",
-//! request 12 of 02 and the readings alone.
+//! An independent writer: a draft into an output, from document 01's "The record and the writer"
+//! and the readings alone.
 
 use crate::avp::padded;
-use crate::dictionary::Dictionary;
 use crate::draft::{avps, Draft, Place};
-use crate::header::{HEADER, LARGEST_CODE, LONGEST_COMMAND};
+use crate::header::{APPLICATION, COMMAND_CODE, HEADER, LONGEST_COMMAND};
 use crate::record::MOST_AVPS;
 use crate::verdict::{number, Verdict};
 
@@ -52,20 +51,14 @@ fn command(draft: &Draft, octets: &[u8], room: usize) -> Result<Vec<u8>, Verdict
     }
 }
 
-/// Whether one of 7006's conditions holds. Application, identifiers, vendor and code of an AVP fill
-/// their places on the wire, so of "does not fit" only the flags and the command code are left.
+/// Whether one of 7006's conditions holds. Identifiers, vendor and code fill their places on the
+/// wire, so of "does not fit" only the flags are left.
 fn is_malformed(draft: &Draft, octets: &[u8]) -> bool {
-    is_malformed_by(draft, octets, draft.dictionary())
-}
-
-/// The same of a draft whose application has this dictionary.
-pub(crate) fn is_malformed_by(draft: &Draft, octets: &[u8], dictionary: Dictionary) -> bool {
     draft.count as usize > MOST_AVPS
         || draft.unused().iter().any(|&place| place != Place::default())
-        || draft.used().iter().any(|place| !place.is_group(dictionary) && leaves(place, octets))
-        || !is_tree(draft.used(), dictionary)
-        || !has_group_lengths(draft.used(), dictionary)
-        || draft.command_code > LARGEST_CODE
+        || draft.used().iter().any(|place| !place.is_group() && leaves(place, octets))
+        || !is_tree(draft.used())
+        || !has_group_lengths(draft.used())
         || [draft.r, draft.p, draft.e, draft.t].iter().any(|&flag| flag > 1)
         || draft.used().iter().any(|place| place.m > 1 || place.p > 1)
 }
@@ -76,22 +69,21 @@ fn leaves(place: &Place, octets: &[u8]) -> bool {
 }
 
 /// First 1; none 0; deeper by one only after a read group; at most 4.
-fn is_tree(places: &[Place], dictionary: Dictionary) -> bool {
+fn is_tree(places: &[Place]) -> bool {
     let mut deepest = 1;
     for place in places {
         if place.depth == 0 || place.depth > deepest || place.depth > DEEPEST {
             return false;
         }
-        deepest = place.depth + u32::from(place.is_group(dictionary));
+        deepest = place.depth + u32::from(place.is_group());
     }
     true
 }
 
 /// Whether each read group's length is that of its members with padding.
-fn has_group_lengths(places: &[Place], dictionary: Dictionary) -> bool {
+fn has_group_lengths(places: &[Place]) -> bool {
     avps(places).all(|(place, members)| {
-        let fits = || u64::from(place.length) == list_length(members) && has_group_lengths(members, dictionary);
-        !place.is_group(dictionary) || fits()
+        !place.is_group() || (u64::from(place.length) == list_length(members) && has_group_lengths(members))
     })
 }
 
@@ -109,25 +101,24 @@ fn list_length(places: &[Place]) -> u64 {
 pub(crate) fn encode(draft: &Draft, octets: &[u8]) -> Vec<u8> {
     let mut out = Vec::with_capacity(length(draft) as usize);
     out.extend([0; HEADER]);
-    put_list(draft.used(), draft.dictionary(), octets, &mut out);
+    put_list(draft.used(), octets, &mut out);
     let length = out.len() as u32;
     let flags = draft.r << 7 | draft.p << 6 | draft.e << 5 | draft.t << 4;
-    let (first, second) = (1 << 24 | length, flags << 24 | draft.command_code);
-    let words = [first, second, draft.application, draft.hop_by_hop, draft.end_to_end];
+    let words = [1 << 24 | length, flags << 24 | COMMAND_CODE, APPLICATION, draft.hop_by_hop, draft.end_to_end];
     for (octets, word) in out.chunks_exact_mut(4).zip(words) {
         octets.copy_from_slice(&word.to_be_bytes());
     }
     out
 }
 
-fn put_list(places: &[Place], dictionary: Dictionary, octets: &[u8], out: &mut Vec<u8>) {
+fn put_list(places: &[Place], octets: &[u8], out: &mut Vec<u8>) {
     for (place, members) in avps(places) {
-        put_avp((place, members), dictionary, octets, out);
+        put_avp(place, members, octets, out);
     }
 }
 
 /// Appends an AVP. Its length field is what was put, so a group's comes from its members.
-fn put_avp((place, members): (&Place, &[Place]), dictionary: Dictionary, octets: &[u8], out: &mut Vec<u8>) {
+fn put_avp(place: &Place, members: &[Place], octets: &[u8], out: &mut Vec<u8>) {
     let at = out.len();
     let v = u32::from(place.vendor != 0);
     let flags = v << 7 | place.m << 6 | place.p << 5;
@@ -136,8 +127,8 @@ fn put_avp((place, members): (&Place, &[Place]), dictionary: Dictionary, octets:
     if v == 1 {
         out.extend(place.vendor.to_be_bytes());
     }
-    if place.is_group(dictionary) {
-        put_list(members, dictionary, octets, out);
+    if place.is_group() {
+        put_list(members, octets, out);
     } else {
         let start = place.start as usize;
         out.extend(&octets[start..start + place.length as usize]);

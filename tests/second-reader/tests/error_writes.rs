@@ -18,15 +18,10 @@ const ERROR_ANSWER: [u8; 56] = [
 
 const LENT: [u8; 6] = [0, 0, 0x0B, 0xC0, b'o', b'r'];
 
-/// A draft of Nt's command without AVPs.
-fn nt() -> Draft {
-    Draft { command_code: 8_388_723, application: 16_777_348, ..Draft::default() }
-}
-
 /// The draft of `ERROR_ANSWER` over `LENT`, with these flags.
 fn draft(r: u32, p: u32, e: u32) -> Draft {
     let place = |code, start, length| Place { depth: 1, code, m: 1, start, length, ..Place::default() };
-    let mut draft = Draft { r, p, e, hop_by_hop: 1, end_to_end: 2, count: 3, ..nt() };
+    let mut draft = Draft { r, p, e, hop_by_hop: 1, end_to_end: 2, count: 3, ..Draft::default() };
     draft.places[..3].copy_from_slice(&[place(264, 4, 1), place(296, 5, 1), place(268, 0, 4)]);
     draft
 }
@@ -68,7 +63,7 @@ fn by_hand() {
         assert_eq!(written(&draft(1, p, 1), 56).0, [3008, 4, 0, 0, 0]);
         assert_eq!(written(&draft(p, 0, 0), 56).0, [3008, 4, 0, 0, 0]);
         // No AVP; 263 for 264, first and late; a flag that fits no bit.
-        assert_eq!(written(&Draft { p, e: 1, ..nt() }, 20).0, [5005, 20, 0, 264, 0]);
+        assert_eq!(written(&Draft { p, e: 1, ..Draft::default() }, 20).0, [5005, 20, 0, 264, 0]);
         let mut session = draft(0, p, 1);
         session.places[0].code = 263;
         assert_eq!(written(&session, 56).0, [5005, 56, 0, 264, 0]);

@@ -73,25 +73,23 @@ fn malformed_drafts_that_pass() {
             }
         }
     });
-    repairing("group lengths made right", |draft, _| settle(draft));
+    repairing("group lengths made right", |draft, _| settle(draft.used_mut()));
     repairing("first depth made 1", |draft, _| {
         if draft.count > 0 {
             draft.places[0].depth = draft.places[0].depth.min(1);
         }
     });
     repairing("a jump by two taken for one", |draft, _| {
-        let names = draft.dictionary();
         for at in 1..draft.used().len() {
             let before = draft.places[at - 1];
-            if before.is_group(names) && draft.places[at].depth == before.depth.wrapping_add(2) {
+            if before.is_group() && draft.places[at].depth == before.depth.wrapping_add(2) {
                 draft.places[at].depth -= 1;
             }
         }
     });
     repairing("groups' starts looked at", |draft, octets| {
-        let names = draft.dictionary();
         let places = draft.used_mut().iter_mut();
-        let outside = |place: &&mut Place| place.is_group(names) && place.start as usize > octets.len();
+        let outside = |place: &&mut Place| place.is_group() && place.start as usize > octets.len();
         places.filter(outside).for_each(|place| place.depth = 0);
     });
 }

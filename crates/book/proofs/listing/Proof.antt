@@ -11,11 +11,8 @@ use Rattle.book.proofs.listing.Tie as tie
 is-book-requires : tie.Need-is-book-requires
 is-book-requires c κs = search rules
 
-table-of-requires : tie.Need-table-of-requires
-table-of-requires c κs = search rules
-
-table-of-requires-2 : tie.Need-table-of-requires-2
-table-of-requires-2 c κs = search rules
+plain-table-requires : tie.Need-plain-table-requires
+plain-table-requires c κs = search rules
 
 slice-aggregate-put-first-line : tie.Need-slice-aggregate-put-first-line
 slice-aggregate-put-first-line c = search rules
@@ -25,17 +22,17 @@ put-first-line-requires c κs = search rules
 
 put-lines-requires : tie.Need-put-lines-requires
 put-lines-requires c κs =
-    let w = c.before.before.before.before in
+    let w = c.before.before.before in
     let p = w.before.before.before in
-    let i = p.before.before in
+    let i = p.before in
     let head = head_put {r = w.put-first-line.result} (sym i.before.is-book.ensures ∙ i.if1.true)
     (omega (arith, w.put-first-line.ensures.next)) in
-    (head, (p.before.table_of.ensures, p.table-of2.ensures))
+    (head, p.plain-table.ensures)
 
 returns : tie.Need-returns
 returns c =
-    let w = c.before.before.before.before.before in
-    let i = w.before.before.before.before.before in
+    let w = c.before.before.before.before in
+    let i = w.before.before.before.before in
     let a = i.before.before.before.args in
     let head : Put a.out.now 0 head_line w.put-first-line.result w.put-first-line.new.0 =
     w.put-first-line.ensures in
@@ -60,8 +57,7 @@ listing-spec =
     tie.close
     (tie.spec
     is-book-requires
-    table-of-requires
-    table-of-requires-2
+    plain-table-requires
     slice-aggregate-put-first-line
     put-first-line-requires
     put-lines-requires

@@ -14,10 +14,10 @@ use Rattle.book.proofs.put_lines.Statement.{statement}
 use Rattle.book.proofs.put_lines.Tie as tie
 
 abbrev invariant-loop : tie.invariant-loop
-invariant-loop book out₀ start nt nta log₀ at₀ offset₀ commands₀ accepted₀ out log at offset commands accepted = LinesLeft book out₀ start out at offset commands accepted
+invariant-loop book out₀ start table log₀ at₀ offset₀ commands₀ accepted₀ out log at offset commands accepted = LinesLeft book out₀ start out at offset commands accepted
 
 abbrev decreases-loop : tie.decreases-loop
-decreases-loop book out₀ start nt nta log₀ at₀ offset₀ commands₀ accepted₀ out log at offset commands accepted = length book - offset
+decreases-loop book out₀ start table log₀ at₀ offset₀ commands₀ accepted₀ out log at offset commands accepted = length book - offset
 
 loop-holds : tie.Need-loop-init invariant-loop decreases-loop
 loop-holds c = first_turn c.before.requires.0

@@ -42,7 +42,7 @@ returns c =
     let s = n.before.before in
     let same : s.args.offset + n.number3.result - s.args.offset ≡ length_of s.args.book.now s.args.offset =
     omega (arith, n.number3.ensures.is) in
-    c.verdict-by.ensures.right s.requires.1.0 s.requires.1.1
+    c.verdict-by.ensures.right s.requires.1
     ∙ ap (λ (l : ℕ). command_verdict (take l (drop s.args.offset s.args.book.now))) same
 
 pub verdict-at-spec : {M : Type 1} → statement M

@@ -1,18 +1,18 @@
 -- `dictionary::code_of` meets its contract: an arm knows the entry, and `_` that it is none.
 use mathlib.Core.Path.{refl}
 use Prim.Native.Nat.{ℕ}
-use Rattle.rules.specs.Dictionary.{dictionary, added_nta}
+use Rattle.rules.specs.Dictionary.{dictionary}
 use Rattle.rules.proofs.Names.{answer_at}
-use Rattle.dictionary.specs.Entries.{every_entry, code_of}
+use Rattle.dictionary.specs.Entries.{code_of}
 use Rattle.dictionary.proofs.Entries.{other_entry}
 use Rattle.dictionary.proofs.code_of.Statement.{statement}
 use Rattle.dictionary.proofs.code_of.Tie as tie
 
 abbrev says : ℕ → ℕ
-says = code_of every_entry
+says = code_of dictionary
 
 pub code-of-spec : {M : Type 1} → statement M
-unfolding code_of dictionary added_nta
+unfolding code_of dictionary
 code-of-spec =
     tie.close
     (tie.spec
@@ -64,11 +64,4 @@ code-of-spec =
     (λ c. answer_at says c.match.keys46 refl refl)
     (λ c. answer_at says c.match.keys47 refl refl)
     (λ c. answer_at says c.match.keys48 refl refl)
-    (λ c. answer_at says c.match.keys49 refl refl)
-    (λ c. answer_at says c.match.keys50 refl refl)
-    (λ c. answer_at says c.match.keys51 refl refl)
-    (λ c. answer_at says c.match.keys52 refl refl)
-    (λ c. answer_at says c.match.keys53 refl refl)
-    (λ c. answer_at says c.match.keys54 refl refl)
-    (λ c. answer_at says c.match.keys55 refl refl)
-    (λ c. other_entry 0 (λ e. e.code) every_entry _ c.match.rest))
+    (λ c. other_entry 0 (λ e. e.code) dictionary _ c.match.rest))

@@ -2,15 +2,10 @@
 use borrow.Author.Rules.{rules}
 use mathlib.Core.Path.{sym, ◌∙◌}
 use mathlib.Core.List.{[], ◌∷◌}
-use native.Mathlib.Omega.{arith}
-use borrow.Author.Tests.{le-leb, ne_eqb}
-use Rattle.rules.specs.Header.{vendor_3gpp}
-use Rattle.rules.specs.Dictionary.{dictionary, added_nta}
-use Rattle.rules.specs.Profile.{nt}
-use Rattle.dictionary.specs.Entries.{every_entry}
+use borrow.Author.Tests.{ne_eqb}
+use Rattle.rules.specs.Dictionary.{dictionary}
 use Rattle.dictionary.specs.Table.{entry_by}
 use Rattle.dictionary.proofs.Entries.{absent_vendor}
-use Rattle.dictionary.proofs.Numbers.{number_none}
 use Rattle.dictionary.proofs.entry_by.Statement.{statement}
 use Rattle.dictionary.proofs.entry_by.Tie as tie
 
@@ -22,19 +17,18 @@ entry-of-3gpp-requires c κs = search rules
 
 returns : tie.Need-returns
 unfolding entry_by
-returns c = c.plain_entry.ensures ∙ rw (c.before.match.keys1, le-leb 0 c.before.before.args.code (omega arith))
+returns c = c.plain_entry.ensures ∙ rw c.before.match.keys1
 
 returns-2 : tie.Need-returns-2
+unfolding entry_by
 returns-2 c = c.entry-of-3gpp.ensures ∙ rw c.before.match.keys2
 
 returns-3 : tie.Need-returns-3
-unfolding entry_by dictionary added_nta
+unfolding entry_by dictionary
 returns-3 c =
     let vendor = c.before.args.vendor in
-    let code = c.before.args.code in
     let rest = c.match.rest in
-    rw (ne_eqb vendor 0 rest.0.1, ne_eqb vendor vendor_3gpp rest.1)
-    (sym (number_none nt vendor code (absent_vendor every_entry (vendor_3gpp ∷ 0 ∷ []) vendor code tt rest)))
+    rw (ne_eqb vendor 0 rest.0.1) (sym (absent_vendor dictionary (10415 ∷ 0 ∷ []) vendor c.before.args.code tt rest))
 
 pub entry-by-spec : {M : Type 1} → statement M
 entry-by-spec =

@@ -3,22 +3,19 @@ use mathlib.Core.Path.{refl, sym}
 use Prim.Native.Nat.{ℕ}
 use lib.Dec.{ltb}
 use borrow.Author.Tests.{lt-ltb}
-use Rattle.rules.specs.Dictionary.{dictionary, added_nta, find}
+use Rattle.rules.specs.Dictionary.{dictionary}
 use Rattle.rules.specs.Header.{vendor_3gpp}
-use Rattle.rules.specs.Profile.{nt}
 use Rattle.rules.proofs.Names.{answer_at}
-use Rattle.dictionary.specs.Entries.{number_where, every_entry, number_in}
-use Rattle.dictionary.specs.Table.{least_nt_code}
+use Rattle.dictionary.specs.Entries.{number_where, entry_of, least_nt_code}
 use Rattle.dictionary.proofs.Entries.{absent_code}
-use Rattle.dictionary.proofs.Numbers.{number_none}
 use Rattle.dictionary.proofs.entry_of_reused.Statement.{statement}
 use Rattle.dictionary.proofs.entry_of_reused.Tie as tie
 
 abbrev says : ℕ → ℕ
-says = number_in nt vendor_3gpp
+says = entry_of dictionary vendor_3gpp
 
 pub entry-of-reused-spec : {M : Type 1} → statement M
-unfolding number_where number_in find dictionary added_nta
+unfolding number_where dictionary
 entry-of-reused-spec =
     tie.close
     (tie.spec
@@ -30,6 +27,5 @@ entry-of-reused-spec =
     (λ c. answer_at says c.match.keys6 refl refl)
     (λ c. answer_at says c.match.keys7 refl refl)
     (λ c. sym
-    (number_none nt vendor_3gpp c.before.args.code
-    (absent_code (λ code. ltb code least_nt_code) every_entry vendor_3gpp _ (lt-ltb _ least_nt_code c.before.requires)
-    c.match.rest))))
+    (absent_code (λ code. ltb code least_nt_code) dictionary vendor_3gpp _ (lt-ltb _ least_nt_code c.before.requires)
+    c.match.rest)))

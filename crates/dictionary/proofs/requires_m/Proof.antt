@@ -4,22 +4,14 @@ use mathlib.Core.Path.{ap, ◌∙◌}
 use Prim.Native.Nat.{ℕ, ◌%◌}
 use lib.Dec.{eqb}
 use Rattle.dictionary.proofs.Entries.{facts_m}
-use Rattle.dictionary.proofs.Numbers.{definition_nt, m_nta}
 use Rattle.dictionary.proofs.requires_m.Statement.{statement}
 use Rattle.dictionary.proofs.requires_m.Tie as tie
-
-is-known-requires : tie.Need-is-known-requires
-is-known-requires c κs = search rules
-
-returns : tie.Need-returns
-returns c = c.is_Known.ensures ∙ m_nta _ c.before.if1.true
 
 facts-requires : tie.Need-facts-requires
 facts-requires c κs = search rules
 
-returns-2 : tie.Need-returns-2
-returns-2 c =
-    rw (definition_nt _ c.before.if1.false) (ap (λ (n : ℕ). eqb (n % 2) 1) c.facts.ensures ∙ facts_m _)
+returns : tie.Need-returns
+returns c = ap (λ (n : ℕ). eqb (n % 2) 1) c.facts.ensures ∙ facts_m _
 
 pub requires-m-spec : {M : Type 1} → statement M
-requires-m-spec = tie.close (tie.spec is-known-requires returns facts-requires returns-2)
+requires-m-spec = tie.close (tie.spec facts-requires returns)

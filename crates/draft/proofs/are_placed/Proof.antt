@@ -6,7 +6,7 @@ use Prim.Native.Nat.{◌+◌, ◌-◌, ◌<◌, min}
 use native.Mathlib.Omega.{arith}
 use borrow.Author.Tests.{not-true, not-false}
 use lib.ListN.{drop}
-use Rattle.rules.specs.Profile.{profile}
+use Rattle.rules.specs.Dictionary.{dictionary}
 use Rattle.rules.specs.Walk.{most_avps}
 use Rattle.rules.specs.Draft.{all_placed}
 use Rattle.numbers.specs.Numbers.{numbered_count, numbered_used}
@@ -15,13 +15,12 @@ use Rattle.draft.proofs.are_placed.Statement.{statement}
 use Rattle.draft.proofs.are_placed.Tie as tie
 
 abbrev invariant-loop : tie.invariant-loop
-invariant-loop application numbers size used i₀ i =
-    let dict = (profile application).entries in
+invariant-loop numbers size used i₀ i =
     (used ≡ min (numbered_count numbers) most_avps)
-    × (all_placed dict size (drop i (numbered_used numbers)) ≡ all_placed dict size (numbered_used numbers))
+    × (all_placed dictionary size (drop i (numbered_used numbers)) ≡ all_placed dictionary size (numbered_used numbers))
 
 abbrev decreases-loop : tie.decreases-loop
-decreases-loop application numbers size used i₀ i = used - i
+decreases-loop numbers size used i₀ i = used - i
 
 used-requires : tie.Need-used-requires invariant-loop decreases-loop
 used-requires c κs = search rules
@@ -39,16 +38,15 @@ is-placed-requires c κs = search rules
 next : (c : tie.After-is-placed invariant-loop decreases-loop) (b : Bool) → c.is-placed.result ≡ b →
     let l = c.before.before.before.loop in
     let a = c.before.before.before.before.before.args in
-    let dict = (profile a.application).entries in
-    (b && all_placed dict a.size (drop (l.i + 1) (numbered_used a.numbers.now)))
-    ≡ all_placed dict a.size (numbered_used a.numbers.now)
+    (b && all_placed dictionary a.size (drop (l.i + 1) (numbered_used a.numbers.now)))
+    ≡ all_placed dictionary a.size (numbered_used a.numbers.now)
 next c b e =
     let at-loop-test = c.before.before in
     let l = at-loop-test.before.loop in
     let a = at-loop-test.before.before.before.args in
     let used : l.i < min (numbered_count a.numbers.now) most_avps = omega (arith, at-loop-test.loop-test.true, l.invariant.0) in
     rw (← e, c.is-placed.ensures, c.before.get.ensures)
-    (sym (placed_next a.numbers.now (profile a.application).entries a.size l.i used) ∙ l.invariant.1)
+    (sym (placed_next a.numbers.now a.size l.i used) ∙ l.invariant.1)
 
 returns : tie.Need-returns invariant-loop decreases-loop
 returns c = next c.before false (not-true _ c.if1.true)
@@ -68,8 +66,7 @@ returns-2 : tie.Need-returns-2 invariant-loop decreases-loop
 returns-2 c =
     let at-loop = c.before in
     let start = at-loop.before.before in
-    let a = start.args in
-    let end = placed_end a.numbers.now (profile a.application).entries a.size at-loop.loop.i
+    let end = placed_end start.args.numbers.now start.args.size at-loop.loop.i
     (omega (arith, c.loop-test.false, at-loop.loop.invariant.0)) in
     sym end ∙ at-loop.loop.invariant.1
 

@@ -1,8 +1,6 @@
 -- `draft::command_size` meets its contract.
 use borrow.Author.Rules.{rules}
 use native.Mathlib.Omega.{arith}
-use Rattle.rules.specs.Draft.{draft_of, draft_dictionary}
-use Rattle.numbers.specs.Numbers.{numbered_record}
 use Rattle.draft.proofs.command_size.Statement.{statement}
 use Rattle.draft.proofs.command_size.Tie as tie
 
@@ -13,9 +11,7 @@ add-result : tie.Need-overflow-add-result
 add-result c = search rules
 
 returns : tie.Need-returns
-returns c =
-    let r = numbered_record c.before.args.numbers.now in
-    record { is = λ s. omega (arith, c.members-size.ensures.is (draft_dictionary (draft_of r s)) s) }
+returns c = record { is = λ s. omega (arith, c.members-size.ensures.is s) }
 
 pub command-size-spec : {M : Type 1} → statement M
 command-size-spec = tie.close (tie.spec members-size-requires add-result returns)

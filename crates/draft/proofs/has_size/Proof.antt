@@ -5,7 +5,6 @@ use Prim.Native.Nat.{ℕ, ◌+◌}
 use lib.Dec.{eqb}
 use lib.ListN.{drop}
 use Rattle.rules.specs.declared.Avp.{Avp}
-use Rattle.rules.specs.Profile.{profile}
 use Rattle.numbers.specs.Numbers.{numbered_used}
 use Rattle.draft.specs.Drafts.{draft_cells, has_size}
 use Rattle.draft.proofs.Cases.{size_group, size_part}
@@ -40,21 +39,19 @@ returns c s =
     let at-get = at-is-read-group.before in
     let start = at-get.before in
     let a = at-get.get.result in
-    let dict = (profile start.args.application).entries in
-    let cs = draft_cells dict s (drop (start.args.i + 1) (numbered_used start.args.numbers.now)) in
-    ap (λ (n : ℕ). eqb a.length n) (c.members-size.ensures.is dict s)
-    ∙ size_group dict a cs (sym at-is-read-group.is-read-group.ensures ∙ at-if1.if1.true)
-    ∙ ap (λ (x : Avp). has_size dict x cs) at-get.get.ensures
+    let cs = draft_cells s (drop (start.args.i + 1) (numbered_used start.args.numbers.now)) in
+    ap (λ (n : ℕ). eqb a.length n) (c.members-size.ensures.is s)
+    ∙ size_group a cs (sym at-is-read-group.is-read-group.ensures ∙ at-if1.if1.true)
+    ∙ ap (λ (x : Avp). has_size x cs) at-get.get.ensures
 
 returns-2 : tie.Need-returns-2
 returns-2 c s =
     let at-is-read-group = c.before in
     let at-get = at-is-read-group.before in
     let start = at-get.before in
-    let dict = (profile start.args.application).entries in
-    let cs = draft_cells dict s (drop (start.args.i + 1) (numbered_used start.args.numbers.now)) in
-    size_part dict at-get.get.result cs (sym at-is-read-group.is-read-group.ensures ∙ c.if1.false)
-    ∙ ap (λ (x : Avp). has_size dict x cs) at-get.get.ensures
+    let cs = draft_cells s (drop (start.args.i + 1) (numbered_used start.args.numbers.now)) in
+    size_part at-get.get.result cs (sym at-is-read-group.is-read-group.ensures ∙ c.if1.false)
+    ∙ ap (λ (x : Avp). has_size x cs) at-get.get.ensures
 
 pub has-size-spec : {M : Type 1} → statement M
 has-size-spec =

@@ -6,20 +6,17 @@ use Prim.Native.Nat.{ℕ, ◌-◌, ◌<◌, min}
 use native.Mathlib.Omega.{arith}
 use borrow.Author.Tests.{not-true, not-false}
 use Rattle.rules.specs.Walk.{most_avps}
-use Rattle.rules.specs.Profile.{profile}
 use Rattle.numbers.specs.Numbers.{numbered_count}
 use Rattle.draft.proofs.Positions.{and_stop, and_on, sizes_left, sizes_next, sizes_end}
 use Rattle.draft.proofs.has_sizes.Statement.{statement}
 use Rattle.draft.proofs.has_sizes.Tie as tie
 
 abbrev invariant-loop : tie.invariant-loop
-invariant-loop application numbers used i₀ i =
-    let dict = (profile application).entries in
-    (used ≡ min (numbered_count numbers) most_avps)
-    × ((s : List ℕ) → sizes_left numbers dict s i ≡ sizes_left numbers dict s 0)
+invariant-loop numbers used i₀ i =
+    (used ≡ min (numbered_count numbers) most_avps) × ((s : List ℕ) → sizes_left numbers s i ≡ sizes_left numbers s 0)
 
 abbrev decreases-loop : tie.decreases-loop
-decreases-loop application numbers used i₀ i = used - i
+decreases-loop numbers used i₀ i = used - i
 
 used-requires : tie.Need-used-requires invariant-loop decreases-loop
 used-requires c κs = search rules
@@ -37,8 +34,7 @@ returns c s =
     let at-loop = at-loop-test.before in
     let start = at-loop.before.before in
     let here = sym (at-has-size.has-size.ensures s) ∙ not-true _ c.if1.true in
-    let dict = (profile start.args.application).entries in
-    let next = sizes_next start.args.numbers.now dict s at-loop.loop.i
+    let next = sizes_next start.args.numbers.now s at-loop.loop.i
     (omega (arith, at-loop-test.loop-test.true, at-loop.loop.invariant.0)) in
     sym (and_stop _ _ next here) ∙ at-loop.loop.invariant.1 s
 
@@ -50,25 +46,21 @@ loop-less c = search rules
 
 loop-again : tie.Need-loop-preserved invariant-loop decreases-loop
 loop-again c =
-    let a = c.before.before.before.before.before.args in
-    let n = a.numbers.now in
-    let dict = (profile a.application).entries in
+    let n = c.before.before.before.before.before.args.numbers.now in
     let l = c.before.before.before.loop in
     let used : l.i < min (numbered_count n) most_avps = omega (arith, c.before.before.loop-test.true, l.invariant.0) in (
       l.invariant.0,
       λ s.
           let here = sym (c.before.has-size.ensures s) ∙ not-false _ c.if1.false in
-          sym (and_on _ _ (sizes_next n dict s l.i used) here) ∙ l.invariant.1 s,
+          sym (and_on _ _ (sizes_next n s l.i used) here) ∙ l.invariant.1 s,
     )
 
 returns-2 : tie.Need-returns-2 invariant-loop decreases-loop
 returns-2 c s =
     let at-loop = c.before in
-    let a = at-loop.before.before.args in
+    let start = at-loop.before.before in
     let l = at-loop.loop in
-    let end = sizes_end a.numbers.now (profile a.application).entries s l.i
-    (omega (arith, c.loop-test.false, l.invariant.0)) in
-    sym end ∙ l.invariant.1 s
+    sym (sizes_end start.args.numbers.now s l.i (omega (arith, c.loop-test.false, l.invariant.0))) ∙ l.invariant.1 s
 
 pub has-sizes-spec : {M : Type 1} → statement M
 has-sizes-spec =

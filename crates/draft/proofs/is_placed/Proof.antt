@@ -1,7 +1,6 @@
 -- `draft::is_placed` meets its contract.
 use borrow.Author.Rules.{rules}
 use mathlib.Core.Path.{sym, ◌∙◌}
-use Rattle.rules.specs.Profile.{profile}
 use Rattle.draft.proofs.Cases.{placed_group, placed_part}
 use Rattle.draft.proofs.is_placed.Statement.{statement}
 use Rattle.draft.proofs.is_placed.Tie as tie
@@ -13,7 +12,7 @@ returns : tie.Need-returns
 returns c =
     let at-is-read-group = c.before in
     let start = at-is-read-group.before in
-    placed_group (profile start.args.application).entries start.args.size start.args.a
+    placed_group start.args.size start.args.a
     (sym at-is-read-group.is-read-group.ensures ∙ c.if1.true)
 
 cast-result : tie.Need-overflow-cast-result
@@ -30,7 +29,7 @@ returns-2 c =
     let at-if1 = c.before.before in
     let at-is-read-group = at-if1.before in
     let start = at-is-read-group.before in
-    placed_part (profile start.args.application).entries start.args.size start.args.a
+    placed_part start.args.size start.args.a
     (sym at-is-read-group.is-read-group.ensures ∙ at-if1.if1.false)
 
 pub is-placed-spec : {M : Type 1} → statement M

@@ -6,24 +6,22 @@ use mathlib.Core.List.{List}
 use Prim.Native.Nat.{ℕ, ◌+◌, ◌-◌, ◌<◌, min}
 use native.Mathlib.Omega.{arith}
 use borrow.Author.Tests.{not-true, not-false}
-use Rattle.rules.specs.Profile.{profile}
+use Rattle.rules.specs.Dictionary.{dictionary}
 use Rattle.rules.specs.Walk.{most_avps}
-use Rattle.rules.specs.Meaning.{cell_of}
 use Rattle.rules.specs.Draft.{next_depth}
 use Rattle.numbers.specs.Numbers.{numbered_count}
+use Rattle.draft.specs.Drafts.{draft_cell}
 use Rattle.draft.proofs.Cases.{in_tree_most}
 use Rattle.draft.proofs.Positions.{tree_left, tree_next, tree_end}
 use Rattle.draft.proofs.is_tree.Statement.{statement}
 use Rattle.draft.proofs.is_tree.Tie as tie
 
 abbrev invariant-loop : tie.invariant-loop
-invariant-loop application numbers used most₀ i₀ most i =
-    let dict = (profile application).entries in
-    (used ≡ min (numbered_count numbers) most_avps)
-    × ((s : List ℕ) → tree_left numbers dict s most i ≡ tree_left numbers dict s 1 0)
+invariant-loop numbers used most₀ i₀ most i =
+    (used ≡ min (numbered_count numbers) most_avps) × ((s : List ℕ) → tree_left numbers s most i ≡ tree_left numbers s 1 0)
 
 abbrev decreases-loop : tie.decreases-loop
-decreases-loop application numbers used most₀ i₀ most i = used - i
+decreases-loop numbers used most₀ i₀ most i = used - i
 
 used-requires : tie.Need-used-requires invariant-loop decreases-loop
 used-requires c κs = search rules
@@ -40,18 +38,14 @@ is-in-tree-requires c κs = search rules
 -- the invariant, with what the test says of the AVP at the position
 next : (c : tie.After-is-in-tree invariant-loop decreases-loop) (s : List ℕ) (b : Bool) → c.is-in-tree.result ≡ b →
     let l = c.before.before.before.loop in
-    let a = c.before.before.before.before.before.args in
-    let n = a.numbers.now in
-    let dict = (profile a.application).entries in
-    (b && tree_left n dict s (next_depth dict (cell_of dict s c.before.get.result)) (l.i + 1)) ≡ tree_left n dict s 1 0
+    let n = c.before.before.before.before.before.args.numbers.now in
+    (b && tree_left n s (next_depth dictionary (draft_cell s c.before.get.result)) (l.i + 1)) ≡ tree_left n s 1 0
 next c s b e =
     let at-loop-test = c.before.before in
     let l = at-loop-test.before.loop in
-    let a = at-loop-test.before.before.before.args in
-    let n = a.numbers.now in
+    let n = at-loop-test.before.before.before.args.numbers.now in
     let used : l.i < min (numbered_count n) most_avps = omega (arith, at-loop-test.loop-test.true, l.invariant.0) in
-    let here = tree_next n (profile a.application).entries s l.most l.i used in
-    rw (← e, c.is-in-tree.ensures, c.before.get.ensures) (sym here ∙ l.invariant.1 s)
+    rw (← e, c.is-in-tree.ensures, c.before.get.ensures) (sym (tree_next n s l.most l.i used) ∙ l.invariant.1 s)
 
 returns : tie.Need-returns invariant-loop decreases-loop
 returns c s = next c.before s false (not-true _ c.if1.true)
@@ -79,11 +73,9 @@ loop-again c =
 returns-2 : tie.Need-returns-2 invariant-loop decreases-loop
 returns-2 c s =
     let at-loop = c.before in
-    let a = at-loop.before.before.args in
+    let start = at-loop.before.before in
     let l = at-loop.loop in
-    let end = tree_end a.numbers.now (profile a.application).entries s l.most l.i
-    (omega (arith, c.loop-test.false, l.invariant.0)) in
-    sym end ∙ l.invariant.1 s
+    sym (tree_end start.args.numbers.now s l.most l.i (omega (arith, c.loop-test.false, l.invariant.0))) ∙ l.invariant.1 s
 
 pub is-tree-spec : {M : Type 1} → statement M
 is-tree-spec =

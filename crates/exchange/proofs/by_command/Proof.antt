@@ -18,9 +18,6 @@ answer-outcome-requires c κs = search rules
 enum-told-3 : tie.Need-enum-told-3
 enum-told-3 c = search rules
 
-enum-told-4 : tie.Need-enum-told-4
-enum-told-4 c = search rules
-
 returns : tie.Need-returns
 returns c = rw c.before.enum_told.given.1 c.request-outcome.ensures
 
@@ -29,9 +26,6 @@ returns-2 c = rw c.before.enum-told2.given.1 c.answer-outcome.ensures
 
 returns-3 : tie.Need-returns-3
 returns-3 c = rw c.enum-told3.given.1
-
-returns-4 : tie.Need-returns-4
-returns-4 c = rw c.enum-told4.given.1
 
 pub by-command-spec : {M : Type 1} → statement M
 by-command-spec =
@@ -42,8 +36,6 @@ by-command-spec =
     enum-told-2
     answer-outcome-requires
     enum-told-3
-    enum-told-4
     returns
     returns-2
-    returns-3
-    returns-4)
+    returns-3)

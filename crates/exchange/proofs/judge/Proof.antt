@@ -30,18 +30,14 @@ returns c =
     answers _ _ _
     (rw (← same, ← u.used.ensures, sym b.by_command_lem.ensures ∙ c.enum-told2.given.1) c.enum-told2.given.1)
 
-windows-by-requires : tie.Need-windows-by-requires
-windows-by-requires c κs = search rules
-
 returns-2 : tie.Need-returns-2
 unfolding exchange_by
 returns-2 c =
-    let t = c.before in
-    let b = t.before.before in
+    let b = c.before.before in
     let u = b.before in
     let a = u.before.before.args in
     let same = ap (avps_in a.log.now) u.used.ensures ∙ avps_used a.log.now a.count in
-    answers _ _ _ (rw (← same, ← u.used.ensures, sym b.by_command_lem.ensures ∙ t.enum_told.given.1) c.windows_by_lem.ensures)
+    answers _ _ _ (rw (← same, ← u.used.ensures, sym b.by_command_lem.ensures ∙ c.enum_told.given.1))
 
 pub judge-spec : {M : Type 1} → statement M
 judge-spec =
@@ -52,5 +48,4 @@ judge-spec =
     enum_told
     enum-told-2
     returns
-    windows-by-requires
     returns-2)

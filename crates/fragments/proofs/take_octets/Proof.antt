@@ -11,7 +11,7 @@ use Rattle.fragments.specs.declared.Progress.TheVariants.{Refusal}
 use Rattle.fragments.specs.Link.{state, step_by, is_length}
 use Rattle.fragments.proofs.Goals.{length-bounds}
 use Rattle.fragments.proofs.Calls.{held_below}
-use Rattle.fragments.proofs.Fills.{Begun, Stands, Resumed, begun_below, ends_short, ends_refused, command_fits_lem, begun_within, ends_unfinished, command_stored, ends_command}
+use Rattle.fragments.proofs.Fills.{Begun, Stands, Resumed, begun_below, ends_short, ends_refused, command_fits, begun_within, ends_unfinished, command_stored, ends_command}
 use Rattle.fragments.proofs.take_octets.Statement.{statement}
 use Rattle.fragments.proofs.take_octets.Tie as tie
 
@@ -116,7 +116,7 @@ fill-requires-2 : tie.Need-fill-requires-2
 fill-requires-2 c κs =
     let n = c.before.before.before.before in
     let e = right c.before.before in
-    let fits = command_fits_lem (begunAt n) (stands n) e in
+    let fits = command_fits (begunAt n) (stands n) e in
     (omega (arith, fits, begun_within (begunAt n) (stands n) e), fits)
 
 add-taken : tie.Need-overflow-add-taken

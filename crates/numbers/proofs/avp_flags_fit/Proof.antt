@@ -5,7 +5,7 @@ use Prim.Native.Nat.{◌+◌}
 use borrow.Author.Tests.{lt-leb, le-leb}
 use lib.Dec.{leb}
 use lib.ListN.{get_or}
-use Rattle.numbers.specs.Layout.{avp_pAt, numbered_place}
+use Rattle.numbers.specs.Numbers.{numbered_place}
 use Rattle.numbers.specs.Flags.{avp_flags_fit}
 use Rattle.numbers.proofs.avp_flags_fit.Statement.{statement}
 use Rattle.numbers.proofs.avp_flags_fit.Tie as tie
@@ -43,7 +43,7 @@ unfolding avp_flags_fit
 returns-2 c =
     let a = c.before.before.before.args in
     let n = a.numbers.now in
-    let p : leb (get_or n (numbered_place a.position + avp_pAt) 0) 1 ≡ avp_flags_fit n a.position = rw (le-leb _ 1 c.before.if1.false) in
+    let p : leb (get_or n (numbered_place a.position + 4) 0) 1 ≡ avp_flags_fit n a.position = rw (le-leb _ 1 c.before.if1.false) in
     p
 
 pub avp-flags-fit-spec : {M : Type 1} → statement M

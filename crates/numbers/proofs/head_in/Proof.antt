@@ -19,25 +19,17 @@ has-flag-requires-3 c κs = search rules
 has-flag-requires-4 : tie.Need-has-flag-requires-4
 has-flag-requires-4 c κs = search rules
 
-number3-requires : tie.Need-number3-requires
-number3-requires c κs = search rules
-
 number4-requires : tie.Need-number4-requires
 number4-requires c κs = search rules
 
 number4-requires-2 : tie.Need-number4-requires-2
 number4-requires-2 c κs = search rules
 
-number4-requires-3 : tie.Need-number4-requires-3
-number4-requires-3 c κs = search rules
-
 returns : tie.Need-returns
 unfolding record_of
 returns c =
     let hop = c.before in
-    let application = hop.before in
-    let code = application.before in
-    let t = code.before in
+    let t = hop.before in
     let e = t.before in
     let p = e.before in
     let r = p.before in
@@ -46,10 +38,8 @@ returns c =
       p.has-flag2.ensures,
       e.has-flag3.ensures,
       t.has-flag4.ensures,
-      code.number3.ensures.is,
-      application.number4.ensures.is,
-      hop.number42.ensures.is,
-      c.number43.ensures.is,
+      hop.number4.ensures.is,
+      c.number42.ensures.is,
       r.before.flags_of.ensures,
     )
 
@@ -62,8 +52,6 @@ head-in-spec =
     has-flag-requires-2
     has-flag-requires-3
     has-flag-requires-4
-    number3-requires
     number4-requires
     number4-requires-2
-    number4-requires-3
     returns)

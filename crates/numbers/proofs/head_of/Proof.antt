@@ -23,12 +23,6 @@ element-copy-out-t20 c = search rules
 element-copy-out-t23 : tie.Need-element-copy-out-t23
 element-copy-out-t23 c = search rules
 
-element-copy-out-t26 : tie.Need-element-copy-out-t26
-element-copy-out-t26 c = search rules
-
-element-copy-out-t29 : tie.Need-element-copy-out-t29
-element-copy-out-t29 c = search rules
-
 returns : tie.Need-returns
 unfolding numbered_record
 returns c = refl
@@ -43,6 +37,4 @@ head-of-spec =
     element-copy-out-t16
     element-copy-out-t20
     element-copy-out-t23
-    element-copy-out-t26
-    element-copy-out-t29
     returns)

@@ -1,7 +1,7 @@
 -- `numbers::put_avp` meets its contract.
 use borrow.Author.Rules.{rules}
+use Prim.Native.Nat.{◌+◌, ◌*◌}
 use Rattle.walk_log.proofs.Kept.{sets_seven}
-use Rattle.numbers.specs.Layout.{numbered_place}
 use Rattle.numbers.proofs.put_avp.Statement.{statement}
 use Rattle.numbers.proofs.put_avp.Tie as tie
 
@@ -81,7 +81,7 @@ returns : tie.Need-returns
 returns c =
     let a = c.before.before.args in
     rw (c.before.bit-of.ensures, c.bit-of2.ensures)
-    (sets_seven a.numbers.now (numbered_place a.position) _ _ _ _ _ _ _)
+    (sets_seven a.numbers.now (a.position * 7 + 7) _ _ _ _ _ _ _)
 
 pub put-avp-spec : {M : Type 1} → statement M
 put-avp-spec =

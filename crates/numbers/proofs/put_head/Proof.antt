@@ -38,12 +38,6 @@ element-write-numbers-6 c = search rules
 element-write-numbers-7 : tie.Need-element-write-numbers-7
 element-write-numbers-7 c = search rules
 
-element-write-numbers-8 : tie.Need-element-write-numbers-8
-element-write-numbers-8 c = search rules
-
-element-write-numbers-9 : tie.Need-element-write-numbers-9
-element-write-numbers-9 c = search rules
-
 returns : tie.Need-returns
 returns c =
     let e3 = c.before in
@@ -71,6 +65,4 @@ put-head-spec =
     element-write-numbers-5
     element-write-numbers-6
     element-write-numbers-7
-    element-write-numbers-8
-    element-write-numbers-9
     returns)

@@ -2,7 +2,7 @@
 use borrow.Author.Rules.{rules}
 use mathlib.Core.Path.{ap, ◌∙◌}
 use Rattle.rules.specs.Verdict.{verdict_of}
-use Rattle.reader.proofs.Order.{verdict_told, right_tables}
+use Rattle.reader.proofs.Order.{verdict_told}
 use Rattle.reader.proofs.verdict_by.Statement.{statement}
 use Rattle.reader.proofs.verdict_by.Tie as tie
 
@@ -18,7 +18,7 @@ returns c =
     record {
       answer = c.verdict-of.ensures ∙ ap verdict_of is.outcome;
       left = is.left;
-      right = λ own other. c.verdict-of.ensures ∙ verdict_told _ _ (is.right (right_tables _ _ _ own other));
+      right = λ table. c.verdict-of.ensures ∙ verdict_told _ _ (is.right table);
     }
 
 pub verdict-by-spec : {M : Type 1} → statement M

@@ -9,37 +9,35 @@ use lib.ListN.{length}
 use Rattle.rules.specs.declared.Avp.{Avp}
 use Rattle.rules.specs.declared.Outcome.TheVariants.{Pass}
 use Rattle.rules.specs.Verdict.{reader_numbers, writer_only_numbers, is_among, verdict, or_else}
-use Rattle.rules.specs.Header.{vendor_3gpp, command_flags, is_request, is_proxiable, length_outcome, flags_outcome, header_by}
+use Rattle.rules.specs.Header.{vendor_3gpp, command_flags, is_request, is_proxiable, length_outcome, application_outcome, flags_outcome, header_outcome}
 use Rattle.rules.specs.Avp.{place_of}
 use Rattle.rules.specs.Walk.{whole}
 use Rattle.rules.specs.RowChecks.{list_outcome, rows_outcome}
 use Rattle.rules.specs.Search.{avp_in}
 use Rattle.rules.specs.Exchange.{exchange_by}
-use Rattle.rules.specs.Command.{lists_outcome_by, IsNt, header_outcome, command_rules, walk_of, lists_outcome, command_verdict}
-use Rattle.rules.specs.Profile.{of_error_answer, rules_nt}
+use Rattle.rules.specs.Command.{of_error_answer, rules_by, command_rules, walk_of, lists_outcome, command_verdict}
 use Rattle.rules.specs.Demands.{AcceptedCommand}
 use Rattle.rules.specs.Order.{own_rows, group_rows, exchange, windows}
 use Rattle.rules.specs.Windows.{RightBefore, WrongWindow}
-use Rattle.rules.specs.ErrorAnswers.{Known, FlagsJudged, KindsJudged, IsErrorAnswer, MeetsGeneralForm}
+use Rattle.rules.specs.ErrorAnswers.{FlagsJudged, KindsJudged, IsErrorAnswer, MeetsGeneralForm}
 use Rattle.rules.proofs.Header.{flags_error_request, flags_proxiable, flags_error_answer, flags_not_proxiable}
-use Rattle.rules.proofs.Profiles.{nt_chosen}
 use Rattle.rules.proofs.Outcomes.{both_pass}
 use Rattle.rules.proofs.Walk.{by_cases}
 use Rattle.rules.proofs.Commands.{passed_command}
 use Rattle.rules.proofs.demands.Demands.{demand_2_accepted}
-use Rattle.rules.proofs.demands.Windows.{pass_all_right, nt_windows, request_5_refused, request_5_accepted}
+use Rattle.rules.proofs.demands.Windows.{pass_all_right, request_5_refused, request_5_accepted}
 
 -- ---- the header
 
 -- where length, version, application and command code pass, the command flags are the answer
-by_flags : (c : List ℕ) → length_outcome c ≡ Pass → Known c → header_outcome c ≡ flags_outcome (command_flags c)
-unfolding header_outcome header_by
+by_flags : (c : List ℕ) → length_outcome c ≡ Pass → application_outcome c ≡ Pass → header_outcome c ≡ flags_outcome (command_flags c)
+unfolding header_outcome
 by_flags c long known = rw (long, known)
 
 -- 02 [1]: "P may be clear here [...] 3008 for a clear P only without E or with R", and R with E is 3008, as in 01.
 -- Carried by the laws of the command flags (rules/proofs/Header); the four cases are all that there are.
 -- Ruled out: a reader that refuses a clear P with E; one that reads a request with E as an error answer.
-pub request_1_flags : (c : List ℕ) → length_outcome c ≡ Pass → Known c → FlagsJudged c
+pub request_1_flags : (c : List ℕ) → length_outcome c ≡ Pass → application_outcome c ≡ Pass → FlagsJudged c
 request_1_flags c long known =
     let f = command_flags c in
     let by = by_flags c long known in
@@ -55,18 +53,17 @@ request_1_flags c long known =
 
 -- ---- what a command is judged by
 
--- 02 [1]: "Judge an answer with E by the general form": that answer alone. In Nt a request and an answer without E are
--- judged by 01's rows and exchange rules, whatever P and T.
--- Carried by the definition of rules_nt alone.
+-- 02 [1]: "Judge an answer with E by the general form": that answer alone. A request and an answer without E are judged
+-- by 01's rows and exchange rules, whatever P and T.
+-- Carried by the definition of rules_by alone.
 -- Ruled out: a reader that judges an answer without E by the general form; one that takes T for E.
-pub request_1_kinds : (c : List ℕ) → IsNt c → KindsJudged c
-unfolding rules_nt
-request_1_kinds c of_nt =
-    let own = nt_chosen c of_nt in
+pub request_1_kinds : (c : List ℕ) → KindsJudged c
+unfolding rules_by
+request_1_kinds c =
     record {
-      request = λ r. rw (own, r);
-      answer = λ a none. rw (own, a, none);
-      error_answer_lem = λ a error. rw (own, a, error);
+      request = λ r. rw r;
+      answer = λ a none. rw (a, none);
+      error_answer_lem = λ a error. rw (a, error);
     }
 
 -- 02 [1]: "7005 is no longer given": it is no number of the reader's table, nor of the writer's own.
@@ -81,7 +78,7 @@ module _ (c : List ℕ) (is : IsErrorAnswer c) where
   header_passes = (request_1_flags c is.long is.known).error_answer_lem is.not_request is.with_error
 
   rules : command_rules c ≡ of_error_answer
-  rules = (request_1_kinds c is.of_nt).error_answer_lem is.not_request is.with_error
+  rules = (request_1_kinds c).error_answer_lem is.not_request is.with_error
 
   -- 02 [1]: "Of the exchange rules only the window rule applies": the others pass, whatever its AVPs are.
   -- Carried by request_1_kinds and the definition of by_command.
@@ -100,7 +97,7 @@ module _ (c : List ℕ) (is : IsErrorAnswer c) where
       (request_5_accepted c xs header_passes m.walk (own_rows_lem xs ∙ m.own) m.groups (request_1_rules xs) m.windows)
 
   meets_form : AcceptedCommand c → (xs : List Avp) × MeetsGeneralForm c xs
-  unfolding lists_outcome lists_outcome_by rows_outcome exchange_by
+  unfolding lists_outcome rows_outcome exchange_by
   meets_form a =
       let p = passed_command c ((demand_2_accepted c).0 a) in
       let xs = p.avps in
@@ -112,7 +109,7 @@ module _ (c : List ℕ) (is : IsErrorAnswer c) where
           walk = p.walk;
           own = sym (own_rows_lem xs) ∙ rows.0;
           groups = rows.1;
-          windows = pass_all_right c xs (sym (nt_windows c xs is.of_nt) ∙ times.1);
+          windows = pass_all_right c xs times.1;
         },
       )
 
@@ -132,4 +129,4 @@ module _ (c : List ℕ) (is : IsErrorAnswer c) where
   pub request_1_window : (xs : List Avp) → walk_of c ≡ whole xs → own_rows c xs ≡ Pass → group_rows c xs ≡ Pass
       → (k j : ℕ) → RightBefore c xs k → WrongWindow c xs k j
       → command_verdict c ≡ verdict 5004 (place_of (avp_in xs j)) vendor_3gpp 4205
-  request_1_window xs walk own groups = request_5_refused c xs header_passes walk own groups (request_1_rules xs) is.of_nt
+  request_1_window xs walk own groups = request_5_refused c xs header_passes walk own groups (request_1_rules xs)

@@ -7,7 +7,7 @@ use lib.ListN.{length, take, drop, replicate}
 use Rattle.rules.specs.declared.Written.{Written}
 use Rattle.rules.specs.Octets.{number_at, padded, octets}
 use Rattle.rules.specs.Verdict.{verdict}
-use Rattle.rules.specs.Header.{application_nta, code_event_reporting, application_nt, length_outcome, application_outcome, flags_outcome, header_by}
+use Rattle.rules.specs.Header.{application_nt, length_outcome, application_outcome, flags_outcome, header_outcome}
 use Rattle.rules.specs.Avp.{avp_at}
 use Rattle.rules.specs.Rows.{rows_of, admits_others}
 use Rattle.rules.specs.Dictionary.{dictionary, find}
@@ -15,15 +15,14 @@ use Rattle.rules.specs.Walk.{framing, wrong_flags, unsupported, wrong_width, wro
 use Rattle.rules.specs.RowChecks.{admission_from, member_outcome, missing_from, members_outcome, members_at, groups_outcome, rows_outcome}
 use Rattle.rules.specs.Search.{positions_from}
 use Rattle.rules.specs.Exchange.{volume, first_request, later_request, request_outcome, result_outcome, policies_outcome, policy_in, policies_at, answer_outcome, window_in, each_window, exchange_by}
-use Rattle.rules.specs.Command.{lists_outcome_by, outcome_by, header_outcome, walk_of, command_outcome, command_verdict}
-use Rattle.rules.specs.Profile.{rules_nt, application_of}
+use Rattle.rules.specs.Command.{rules_by, walk_of, lists_outcome, command_outcome, command_verdict}
 use Rattle.rules.specs.Record.{record_of, empty_record, reading}
 use Rattle.rules.specs.Agreement.{fills_one, agrees_below, agree}
 use Rattle.rules.specs.Wire.{avp_flags, avp_header, avp_octets, list_octets, flags_octet, command_header, command_octets}
-use Rattle.rules.specs.Draft.{is_blank, all_blank, is_placed, all_placed, is_tree, members_size, has_sizes, command_fits, identifiers_fit, name_fits, names_fit, is_well_formed, Draft, own_draft}
+use Rattle.rules.specs.Draft.{is_blank, all_blank, is_placed, all_placed, is_tree, members_size, has_sizes, identifiers_fit, name_fits, names_fit, is_well_formed, Draft, own_draft}
 use Rattle.rules.specs.Writer.{own_outcome, draft_outcome, octets_written, writing, output_after}
 use Rattle.rules.specs.Calls.{rest, output_after_all, accepted_drafts}
-use Rattle.rules.specs.Edges.{header, header_with, avp, avp_of_3gpp, s_begins, vendor_id, s_goes_on, s_ends, s_front, s}
+use Rattle.rules.specs.Edges.{header, avp, avp_of_3gpp, s_begins, vendor_id, s_goes_on, s_ends, s_front, s}
 use Rattle.rules.specs.ErrorAnswers.{with_flags, error_answer, session, host, realm, result, three}
 
 -- other octets from a place on
@@ -66,12 +65,12 @@ examples =
       output = replicate 159 0xEE;
       accepted = [];
     }
-    -- S with other padding and reserved bits is written as S; between the two a call is refused, since the empty
-    -- record is of neither application, and the next call gets the same part
+    -- S with other padding and reserved bits is written as S; between the two a call is refused, since P is clear in
+    -- the empty record, and the next call gets the same part
     ∷ record {
       commands = s ∷ [] ∷ altered ∷ [];
       before = replicate 323 0xEE;
-      answers = answer 0 0 160 ∷ answer 3007 8 0 ∷ answer 0 0 160 ∷ [];
+      answers = answer 0 0 160 ∷ answer 3008 4 0 ∷ answer 0 0 160 ∷ [];
       output = s ++ (s ++ (0xEE ∷ 0xEE ∷ 0xEE ∷ []));
       accepted = s ∷ altered ∷ [];
     }
@@ -104,7 +103,7 @@ worked x = record {
 
 -- each example has its answers, its output and its accepted drafts
 pub worked_calls : map worked examples ≡ examples
-unfolding examples with_flags session host realm result three s altered header_with avp avp_of_3gpp s_begins vendor_id s_goes_on s_ends s_front answers_of output_after_all accepted_drafts number_at padded length_outcome application_outcome flags_outcome header_by avp_at rows_of admits_others dictionary find framing wrong_flags unsupported wrong_width wrong_value too_deep contents checked walk_avp walk_list admission_from member_outcome missing_from members_outcome members_at groups_outcome rows_outcome positions_from volume first_request later_request request_outcome result_outcome policies_outcome policy_in policies_at answer_outcome window_in each_window exchange_by rules_nt application_of lists_outcome_by outcome_by header_outcome walk_of command_outcome command_verdict record_of empty_record reading octets avp_flags avp_header avp_octets list_octets flags_octet command_header command_octets is_blank all_blank is_placed all_placed is_tree members_size has_sizes command_fits identifiers_fit name_fits names_fit is_well_formed own_outcome draft_outcome octets_written writing output_after
+unfolding examples with_flags session host realm result three s altered header avp avp_of_3gpp s_begins vendor_id s_goes_on s_ends s_front answers_of output_after_all accepted_drafts number_at padded length_outcome application_outcome flags_outcome header_outcome avp_at rows_of admits_others dictionary find framing wrong_flags unsupported wrong_width wrong_value too_deep contents checked walk_avp walk_list admission_from member_outcome missing_from members_outcome members_at groups_outcome rows_outcome positions_from volume first_request later_request request_outcome result_outcome policies_outcome policy_in policies_at answer_outcome window_in each_window exchange_by rules_by walk_of lists_outcome command_outcome command_verdict record_of empty_record reading octets avp_flags avp_header avp_octets list_octets flags_octet command_header command_octets is_blank all_blank is_placed all_placed is_tree members_size has_sizes identifiers_fit name_fits names_fit is_well_formed own_outcome draft_outcome octets_written writing output_after
 worked_calls = refl
 
 -- ---- agreement
@@ -124,10 +123,8 @@ comparisons =
     -- its Session-Id changed, T set, R clear, E set, P clear, the last AVP left out
     ∷ compare (changed s 28 (0x74 ∷ [])) false ∷ compare (changed s 4 (0xD0 ∷ [])) false
     ∷ compare (changed s 4 (0x40 ∷ [])) false ∷ compare (changed s 4 (0xE0 ∷ [])) false
-    ∷ compare (changed s 4 (0x80 ∷ [])) false ∷ compare (take 144 s) false
-    -- another application, another command code
-    ∷ compare (changed s 8 (octets 4 application_nta)) false ∷ compare (changed s 5 (octets 3 code_event_reporting)) false ∷ []
+    ∷ compare (changed s 4 (0x80 ∷ [])) false ∷ compare (take 144 s) false ∷ []
 
 pub worked_agreement : map (λ x. agree s x.other) comparisons ≡ map (λ x. x.agrees) comparisons
-unfolding comparisons s altered header_with avp avp_of_3gpp s_begins vendor_id s_goes_on s_ends s_front fills_one agrees_below agree number_at padded avp_at dictionary find framing wrong_flags unsupported wrong_width wrong_value too_deep contents checked walk_avp walk_list application_of walk_of octets
+unfolding comparisons s altered header avp avp_of_3gpp s_begins vendor_id s_goes_on s_ends s_front fills_one agrees_below agree number_at padded avp_at dictionary find framing wrong_flags unsupported wrong_width wrong_value too_deep contents checked walk_avp walk_list walk_of octets
 worked_agreement = refl

@@ -12,11 +12,11 @@ use Rattle.rules.specs.declared.Avp.{Avp}
 use Rattle.rules.specs.declared.Verdict.{Verdict}
 use Rattle.rules.specs.declared.Outcome.TheVariants.{Pass, Refused}
 use Rattle.rules.specs.Verdict.{writer_only_numbers, is_among, refused, or_else, verdict, verdict_of}
-use Rattle.rules.specs.Header.{longest_command}
+use Rattle.rules.specs.Header.{header_outcome, longest_command}
 use Rattle.rules.specs.Walk.{Walked, whole, stopped}
 use Rattle.rules.specs.RowChecks.{rows_outcome}
 use Rattle.rules.specs.Exchange.{exchange_by}
-use Rattle.rules.specs.Command.{lists_outcome_by, walked_outcome_by, outcome_by, chosen, header_outcome, walk_of, command_outcome, command_verdict}
+use Rattle.rules.specs.Command.{walk_of, lists_outcome, walked_outcome, command_outcome, command_verdict}
 use Rattle.rules.specs.Draft.{Draft, is_well_formed}
 use Rattle.rules.specs.Writer.{draft_octets, own_outcome, draft_outcome, octets_written, writing}
 use Rattle.rules.specs.Demands.{AcceptedCommand}
@@ -24,24 +24,24 @@ use Rattle.rules.specs.Order.{fits_table, own_rows, group_rows, exchange, window
 use Rattle.rules.proofs.Writer.{by_form, by_length, by_room, none_own}
 use Rattle.rules.proofs.Walk.{by_cases}
 use Rattle.rules.proofs.demands.items.Lists.{not_both}
-use Rattle.rules.proofs.demands.numbering.Numbering.{command_fits_lem, command_within, command_not_writers}
+use Rattle.rules.proofs.demands.numbering.Numbering.{command_fits, command_within, command_not_writers}
 use Rattle.rules.proofs.demands.Demands.{demand_2_accepted}
 
 -- ---- a command
 
 module _ (c : List ℕ) where
   by_header : (v : Verdict) → header_outcome c ≡ Refused v → command_verdict c ≡ v
-  unfolding command_verdict command_outcome outcome_by header_outcome
+  unfolding command_verdict command_outcome
   by_header v h = rw h
 
   module _ (headed : header_outcome c ≡ Pass) where
-    by_walk : (w : Walked) → walk_of c ≡ w → command_verdict c ≡ verdict_of (walked_outcome_by (chosen c) c w)
-    unfolding command_verdict command_outcome outcome_by header_outcome walk_of
+    by_walk : (w : Walked) → walk_of c ≡ w → command_verdict c ≡ verdict_of (walked_outcome c w)
+    unfolding command_verdict command_outcome
     by_walk w e = rw (headed, e)
 
     module _ (xs : List Avp) (walked : walk_of c ≡ whole xs) where
       by_lists : command_verdict c ≡ verdict_of (or_else (or_else (own_rows c xs) (group_rows c xs)) (or_else (exchange c xs) (windows c xs)))
-      unfolding lists_outcome_by rows_outcome exchange_by
+      unfolding lists_outcome rows_outcome exchange_by
       by_lists = by_walk (whole xs) walked
 
       list_faults : FirstListFault c xs
@@ -80,7 +80,7 @@ demand_2_accepted_verdict c a = ap verdict_of ((demand_2_accepted c).0 a)
 -- Carried by header_meets and walk-meets (numbering/Refusals), rows_meets and exchange_meets (numbering/ListRefusals).
 -- Ruled out: a reader whose 3001 stands at place 8, as 3007 does; one whose 7002 carries the name of the 257th AVP.
 pub demand_1_header_places : (c : List ℕ) → fits_table (command_verdict c) ≡ true
-demand_1_header_places = command_fits_lem
+demand_1_header_places = command_fits
 
 -- ---- a write call
 

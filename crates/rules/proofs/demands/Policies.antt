@@ -1,5 +1,5 @@
--- Request [9]: the exchange rules go by the number of policies. Which answers of Nt without E are refused for 4202 and
--- for 2207, and that no other is. The claims stand in rules/specs/Policies.
+-- Request [9]: the exchange rules go by the number of policies. Which answers without E are refused for 4202 and for
+-- 2207, and that no other is. The claims stand in rules/specs/Policies.
 use mathlib.Core.Path.{◌≡◌}
 use mathlib.Core.Bool.{cond}
 use mathlib.Core.List.{List}
@@ -13,8 +13,7 @@ use Rattle.rules.specs.declared.Outcome.TheVariants.{Pass}
 use Rattle.rules.specs.Verdict.{refused, verdict}
 use Rattle.rules.specs.Search.{first, how_many}
 use Rattle.rules.specs.Exchange.{require, result_outcome, policy_number, policies_outcome, each_policy, answer_outcome}
-use Rattle.rules.specs.Command.{command_rules, command_verdict}
-use Rattle.rules.specs.Profile.{of_answer}
+use Rattle.rules.specs.Command.{of_answer, command_rules, command_verdict}
 use Rattle.rules.specs.Order.{exchange}
 use Rattle.rules.specs.Policies.{IsAnswer, Offers, Unreferenced, Unaddressed, Equipped}
 use Rattle.rules.specs.Volumes.{Has}
@@ -25,7 +24,7 @@ use Rattle.rules.proofs.demands.ErrorAnswers.{request_1_kinds}
 
 -- what an answer without E is judged by
 answer_rules : (c : List ℕ) → IsAnswer c → command_rules c ≡ of_answer
-answer_rules c a = (request_1_kinds c a.of_nt).answer a.not_request a.without_error
+answer_rules c a = (request_1_kinds c).answer a.not_request a.without_error
 
 module _ (c : List ℕ) (xs : List Avp) where
   -- the number that the search tells

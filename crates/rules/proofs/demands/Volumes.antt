@@ -10,17 +10,16 @@ use Rattle.rules.specs.declared.Found.{Found}
 use Rattle.rules.specs.declared.Found.TheVariants.{At, Nothing}
 use Rattle.rules.specs.declared.Outcome.TheVariants.{Pass}
 use Rattle.rules.specs.Verdict.{refused, verdict}
+use Rattle.rules.specs.Header.{header_outcome}
 use Rattle.rules.specs.Avp.{place_of}
 use Rattle.rules.specs.Walk.{whole}
 use Rattle.rules.specs.RowChecks.{member_fault}
 use Rattle.rules.specs.Search.{avp_in, first, FirstAvp, Stands}
 use Rattle.rules.specs.Exchange.{require, first_found, direction, volume, not_beside, total_alone, first_request, later_request, by_request_type, request_outcome}
-use Rattle.rules.specs.Command.{header_outcome, walk_of, command_verdict}
-use Rattle.rules.specs.Profile.{rules_nt}
+use Rattle.rules.specs.Command.{rules_by, walk_of, command_verdict}
 use Rattle.rules.specs.Order.{own_rows, group_rows, exchange}
 use Rattle.rules.specs.Volumes.{Has, HasDirection, StandsAlone, RequestOfType, TotalBeside, CompleteFirst, CompleteLater}
 use Rattle.rules.proofs.demands.Found.{search_first, search_absent}
-use Rattle.rules.proofs.Profiles.{nt_chosen}
 use Rattle.rules.proofs.demands.Order.{demand_2_first_fault}
 
 -- a refusal of an AVP that has this name
@@ -78,8 +77,8 @@ module _ (xs : List Avp) where
 
   module _ (c : List ℕ) where
     by_type : (value : ℕ) → RequestOfType c xs value → exchange c xs ≡ by_request_type (first xs) xs (length c) value
-    unfolding rules_nt request_outcome
-    by_type value r = rw (nt_chosen c r.of_nt, r.request, found (r.position, r.typed), r.valued)
+    unfolding rules_by request_outcome
+    by_type value r = rw (r.request, found (r.position, r.typed), r.valued)
 
     module _ (i : ℕ) (b : TotalBeside c xs i) where
       first_refused : first_request (first xs) xs (length c) ≡ member_fault 5008 (avp_in xs i)

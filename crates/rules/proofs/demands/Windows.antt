@@ -1,5 +1,5 @@
--- Request [5]: the windows of a command of Nt. Which are right, and which one's fault comes back, with place, vendor
--- and code. The claims stand in rules/specs/Windows.
+-- Request [5]: the windows of a command. Which are right, and which one's fault comes back, with place, vendor and
+-- code. The claims stand in rules/specs/Windows.
 use mathlib.Core.Path.{◌≡◌, refl, sym, ◌∙◌}
 use mathlib.Core.Bool.{true, false}
 use mathlib.Core.List.{List}
@@ -12,31 +12,28 @@ use lib.ListN.{length, drop, drop_of_length-le}
 use lib.Seq.{drop-cons}
 use lib.Signed.{lt_z, ◌≤ℤ◌, ◌<ℤ◌, clash_ℤ}
 use Rattle.rules.specs.declared.Avp.{Avp}
-use Rattle.rules.specs.declared.ExchangeRules.{ExchangeRules}
-use Rattle.rules.specs.declared.ExchangeRules.TheVariants.{OfRequest, OfAnswer, WindowsAlone, NoRules}
 use Rattle.rules.specs.declared.Found.{Found}
 use Rattle.rules.specs.declared.Found.TheVariants.{At, Nothing}
 use Rattle.rules.specs.declared.Outcome.{Outcome}
 use Rattle.rules.specs.declared.Outcome.TheVariants.{Pass}
 use Rattle.rules.specs.Octets.{number_at}
 use Rattle.rules.specs.Verdict.{refused, or_else, verdict}
-use Rattle.rules.specs.Header.{vendor_3gpp, command_flags, is_request, is_error}
+use Rattle.rules.specs.Header.{vendor_3gpp, header_outcome}
 use Rattle.rules.specs.Avp.{named, place_of, end_of}
+use Rattle.rules.specs.Dictionary.{dictionary}
 use Rattle.rules.specs.Walk.{whole}
 use Rattle.rules.specs.RowChecks.{rows_outcome}
 use Rattle.rules.specs.Search.{blank, avp_in, member}
 use Rattle.rules.specs.Times.{is_before}
-use Rattle.rules.specs.Exchange.{times_by, window_by, window_in, window_at, each_window, exchange_by, windows_by}
-use Rattle.rules.specs.Command.{lists_outcome_by, chosen, IsNt, header_outcome, command_rules, walk_of, lists_outcome, command_verdict}
+use Rattle.rules.specs.Exchange.{times_by, window_by, window_in, window_at, each_window, exchange_by}
+use Rattle.rules.specs.Command.{command_rules, walk_of, lists_outcome, command_verdict}
 use Rattle.rules.specs.Demands.{AcceptedCommand}
 use Rattle.rules.specs.Order.{own_rows, group_rows, exchange, windows}
 use Rattle.rules.specs.Windows.{IsWindow, Window, seconds_of, RightWindow, WrongWindow, RightBefore, AllRight}
 use Rattle.rules.proofs.Tests.{and_true}
 use Rattle.rules.proofs.Outcomes.{both_pass}
 use Rattle.rules.proofs.Walk.{by_cases, never}
-use Rattle.rules.specs.Profile.{rules_nt}
 use Rattle.rules.proofs.Commands.{passed_command}
-use Rattle.rules.proofs.Profiles.{nt_chosen}
 use Rattle.rules.proofs.demands.Demands.{demand_2_accepted}
 use Rattle.rules.proofs.demands.Found.{member_first}
 use Rattle.rules.proofs.demands.Order.{demand_2_first_fault}
@@ -137,7 +134,7 @@ module _ (c : List ℕ) (xs : List Avp) where
   passed_both k h e = both_pass (window_at xs c k (avp_in xs k)) (windows_from (suc k)) (sym (next_window k h) ∙ e)
 
   -- where those before a position are right, what the others say
-  right_before : (k : ℕ) → k ≤ length xs → RightBefore c xs k → each_window xs c 0 xs ≡ windows_from k
+  right_before : (k : ℕ) → k ≤ length xs → RightBefore c xs k → windows c xs ≡ windows_from k
   unfolding windows_from
   right_before zero h right = refl
   right_before (suc k) h right =
@@ -145,13 +142,13 @@ module _ (c : List ℕ) (xs : List Avp) where
       ∙ next_window k h
       ∙ rw (right_passes c xs k (right k (omega arith)))
 
-  all_pass : AllRight c xs → each_window xs c 0 xs ≡ Pass
+  all_pass : AllRight c xs → windows c xs ≡ Pass
   unfolding windows_from each_window
   all_pass right =
       right_before (length xs) (omega arith) right ∙ rw (drop_of_length-le xs {i = length xs} (omega arith))
 
   first_wrong : (k j : ℕ) → RightBefore c xs k → WrongWindow c xs k j
-      → each_window xs c 0 xs ≡ refused 5004 (place_of (avp_in xs j)) vendor_3gpp 4205
+      → windows c xs ≡ refused 5004 (place_of (avp_in xs j)) vendor_3gpp 4205
   first_wrong k j right w =
       let later = w.window.end.behind in
       let within = w.window.end.within in
@@ -159,7 +156,7 @@ module _ (c : List ℕ) (xs : List Avp) where
       ∙ next_window k (omega arith)
       ∙ rw (wrong_refused c xs k w.i j w.window w.not_above)
 
-  module _ (p : each_window xs c 0 xs ≡ Pass) where
+  module _ (p : windows c xs ≡ Pass) where
     passed_from : (k : ℕ) → k ≤ length xs → windows_from k ≡ Pass
     unfolding windows_from
     passed_from zero h = p
@@ -168,50 +165,35 @@ module _ (c : List ℕ) (xs : List Avp) where
     pub pass_all_right : AllRight c xs
     pass_all_right k h w = passed_right c xs k w (passed_both k h (passed_from k (omega arith))).0
 
--- windows that pass are no fault, by whatever rules
-windows_pass : (rules : ExchangeRules) (o : Outcome) → o ≡ Pass → windows_by rules o ≡ Pass
-windows_pass OfRequest o e = e
-windows_pass OfAnswer o e = e
-windows_pass WindowsAlone o e = e
-windows_pass NoRules o e = refl
-
--- the windows of a command of Nt are judged, whatever its flags
-pub nt_windows : (c : List ℕ) (xs : List Avp) → IsNt c → windows c xs ≡ each_window xs c 0 xs
-unfolding rules_nt
-nt_windows c xs of_nt =
-    let own = nt_chosen c of_nt in
-    by_cases (is_request (command_flags c)) (λ r. rw (own, r))
-    (λ r. by_cases (is_error (command_flags c)) (λ e. rw (own, r, e)) (λ e. rw (own, r, e)))
-
 -- ---- in their place
 
 -- the rows are met, and the exchange rules of the request or the answer hold
 module _ (c : List ℕ) (xs : List Avp) (h : header_outcome c ≡ Pass) (w : walk_of c ≡ whole xs) (own : own_rows c xs ≡ Pass)
     (groups : group_rows c xs ≡ Pass) (rules : exchange c xs ≡ Pass) where
-  -- 02 [5]: "A window is right exactly when this number is above 0. Refusals: 5004 keeps its place": in Nt the first
-  -- window in walk order, at any depth, whose number is not above 0 is refused at its 4205.
+  -- 02 [5]: "A window is right exactly when this number is above 0. Refusals: 5004 keeps its place": the first window
+  -- in walk order, at any depth, whose number is not above 0 is refused at its 4205.
   -- Carried by request_5_right (Times), member_first (Found) and demand_2_first_fault (Order).
   -- Ruled out: a reader that orders raw numbers; one that reports the last of two wrong windows.
-  pub request_5_refused : IsNt c → (k j : ℕ) → RightBefore c xs k → WrongWindow c xs k j
+  pub request_5_refused : (k j : ℕ) → RightBefore c xs k → WrongWindow c xs k j
       → command_verdict c ≡ verdict 5004 (place_of (avp_in xs j)) vendor_3gpp 4205
-  request_5_refused of_nt k j right wrong =
-      ((demand_2_first_fault c).lists xs h w).times _ own groups rules (nt_windows c xs of_nt ∙ first_wrong c xs k j right wrong)
+  request_5_refused k j right wrong =
+      ((demand_2_first_fault c).lists xs h w).times _ own groups rules (first_wrong c xs k j right wrong)
 
   -- And where all are right, the command is accepted.
   -- Carried by the same.
   -- Ruled out: a reader that goes the nearer way round, so that a window of more than half the range is refused; one
   -- that refuses a window over February 2036.
   pub request_5_accepted : AllRight c xs → command_verdict c ≡ verdict 0 0 0 0
-  request_5_accepted right = ((demand_2_first_fault c).lists xs h w).none own groups rules (windows_pass (command_rules c).exchange _ (all_pass c xs right))
+  request_5_accepted right = ((demand_2_first_fault c).lists xs h w).none own groups rules (all_pass c xs right)
 
--- An accepted command of Nt has only right windows.
+-- An accepted command has only right windows.
 -- Carried by demand_2_accepted, passed_command (rules/proofs/Commands), member_first (Found) and request_5_right.
 -- Ruled out: a reader that lets a window without an end pass; one that judges the windows of requests alone.
-pub request_5_only : (c : List ℕ) → IsNt c → AcceptedCommand c → (xs : List Avp) × (walk_of c ≡ whole xs) × AllRight c xs
-unfolding lists_outcome lists_outcome_by exchange_by
-request_5_only c of_nt a =
+pub request_5_only : (c : List ℕ) → AcceptedCommand c → (xs : List Avp) × (walk_of c ≡ whole xs) × AllRight c xs
+unfolding lists_outcome exchange_by
+request_5_only c a =
     let p = passed_command c ((demand_2_accepted c).0 a) in
     let xs = p.avps in
-    let rows = rows_outcome (chosen c).entries (command_rules c).rows (length c) xs in
+    let rows = rows_outcome dictionary (command_rules c).rows (length c) xs in
     let after-rows = (both_pass rows _ p.lists).1 in
-    (xs, p.walk, pass_all_right c xs (sym (nt_windows c xs of_nt) ∙ (both_pass (exchange c xs) (windows c xs) after-rows).1))
+    (xs, p.walk, pass_all_right c xs (both_pass (exchange c xs) (windows c xs) after-rows).1)

@@ -26,7 +26,7 @@ pub fn error_answer(prng: &mut Prng) -> Vec<Node> {
     add(&mut list, TimeWindow, &[0, 0, 0, 1, 2], prng);
     add(&mut list, ProxyInfo, &[0, 0, 0, 1, 2], prng);
     if prng.one_in(2) {
-        let kind = prng.pick(Kind::OF_BOTH);
+        let kind = prng.pick(Kind::ALL);
         if !ERROR_ANSWER.single.has(kind) {
             add(&mut list, kind, &[1, 2, 2, 3], prng);
         }
@@ -43,7 +43,7 @@ pub fn error_answer(prng: &mut Prng) -> Vec<Node> {
 }
 
 /// Adds one of these numbers of AVPs of a kind.
-pub fn add(list: &mut Vec<Node>, kind: Kind, numbers: &[usize], prng: &mut Prng) {
+fn add(list: &mut Vec<Node>, kind: Kind, numbers: &[usize], prng: &mut Prng) {
     for _ in 0..prng.pick(numbers) {
         list.push(known(kind, 1, prng));
     }

@@ -3,7 +3,7 @@
 use super::prng::Prng;
 use super::sound::{known, unknown};
 use super::tree::{Body, Node, Tree};
-use crate::dictionary::Kind::{self, *};
+use crate::dictionary::Kind::*;
 use crate::record::MOST_AVPS;
 
 /// Adds short AVPs, anywhere that admits them, until there are `goal`.
@@ -13,7 +13,7 @@ pub fn fill(tree: &mut Tree, goal: usize, prng: &mut Prng) {
         if let Body::Data(data) = &mut node.body {
             data.truncate(6);
         }
-        let groups = open_groups(&tree.list);
+        let groups = open_groups(tree);
         if groups.is_empty() || !prng.one_in(4) {
             tree.list.insert(1 + prng.below(tree.list.len()), node);
         } else if let Body::Members(members) = &mut tree.list[prng.pick(&groups)].body {
@@ -22,13 +22,11 @@ pub fn fill(tree: &mut Tree, goal: usize, prng: &mut Prng) {
     }
 }
 
-/// The groups that admit any other AVP, at last Nta's own.
-pub const OPEN: [Kind; 5] = [ProxyInfo, SupportedFeatures, TimeWindow, TransferPolicy, EventReports];
-
-/// Where the groups of a list stand that admit any other AVP.
-pub fn open_groups(list: &[Node]) -> Vec<usize> {
-    let is_open = |node: &Node| matches!(node.body, Body::Members(_)) && OPEN.into_iter().any(|kind| node.is(kind));
-    (0..list.len()).filter(|&at| is_open(&list[at])).collect()
+/// Where the groups of the command's own list stand that admit any other AVP.
+pub fn open_groups(tree: &Tree) -> Vec<usize> {
+    let is_open =
+        |node: &Node| [ProxyInfo, SupportedFeatures, TimeWindow, TransferPolicy].into_iter().any(|kind| node.is(kind));
+    (0..tree.list.len()).filter(|&at| is_open(&tree.list[at])).collect()
 }
 
 /// Adds one long AVP that makes the command `goal` octets long, if there is room.

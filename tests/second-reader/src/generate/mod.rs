@@ -6,7 +6,6 @@ mod errors;
 mod fill;
 pub mod lists;
 mod mutate;
-mod nta;
 mod prng;
 pub mod records;
 pub mod runs;

@@ -4,7 +4,6 @@
 use super::prng::Prng;
 use super::sound;
 use crate::draft::{Draft, Place};
-use crate::layout::PLACE_NUMBERS;
 use crate::record::MOST_AVPS;
 
 /// Depths that are not 1, some of which are 1 if cut to fewer bits.
@@ -48,7 +47,8 @@ fn few_names(prng: &mut Prng) -> Draft {
 fn wild(prng: &mut Prng) -> Draft {
     let mut draft = Draft { count: prng.below(300) as u32, ..Draft::default() };
     for place in &mut draft.places[..prng.pick(&[20, 20, 20, MOST_AVPS])] {
-        *place = Place::of([(); PLACE_NUMBERS].map(|()| number(prng)));
+        let [depth, vendor, code, m, p, start, length] = [(); 7].map(|()| number(prng));
+        *place = Place { depth, vendor, code, m, p, start, length };
     }
     draft
 }

@@ -3,50 +3,33 @@
 use super::fill::{fill, open_groups, stretch};
 use super::prng::Prng;
 use super::tree::{Body, Node, Tree};
-use super::{errors, nta, times};
-use crate::dictionary::{Dictionary, Form, Kind, DIRECTIONS, VOLUMES};
-use crate::header::LONGEST_COMMAND;
-use crate::profile::{NT_APPLICATION, TRANSFER};
+use super::{errors, times};
+use crate::dictionary::{Form, Kind, DIRECTIONS, VOLUMES};
+use crate::header::{Command, LONGEST_COMMAND};
 use crate::record::MOST_AVPS;
 use crate::rows::{self, Rows};
 use Kind::*;
 
-/// The read groups, at last Nta's own.
-pub const GROUPS: [Kind; 7] = [
-    VendorSpecificApplicationId,
-    ExperimentalResult,
-    ProxyInfo,
-    SupportedFeatures,
-    TimeWindow,
-    TransferPolicy,
-    EventReports,
-];
-
-/// The read groups that both applications know.
-const GROUPS_OF_BOTH: &[Kind] = GROUPS.split_at(6).0;
+/// The read groups.
+pub const GROUPS: [Kind; 6] =
+    [VendorSpecificApplicationId, ExperimentalResult, ProxyInfo, SupportedFeatures, TimeWindow, TransferPolicy];
 
 /// Values of 268, which is not judged: none that is assigned, of a success, of protocol errors, of failures.
 const RESULTS: [u32; 6] = [0, 2001, 3007, 3008, 4002, 5005];
 
-/// What a sound command is made of.
-pub struct Sound {
-    pub application: u32,
-    pub code: u32,
-    pub flags: u8,
-    /// The rows of its own list.
-    pub rows: &'static Rows,
-    pub list: Vec<Node>,
-}
-
 /// A sound command, rarely one that a limit refuses.
 pub fn command(prng: &mut Prng) -> Tree {
-    let Sound { application, code, mut flags, rows, list } =
-        if prng.one_in(4) { nta::command(prng) } else { transfer(prng) };
+    let (mut flags, command, list) = match prng.below(8) {
+        0..=2 => (0xC0, Command::Request, request(prng)),
+        3..=5 => (0x40, Command::Answer, answer(prng)),
+        _ => (prng.pick(&[0x20, 0x60]), Command::ErrorAnswer, errors::error_answer(prng)),
+    };
+    let rows = rows::of_command(command);
     flags |= prng.octet() & 0x0F;
     if prng.one_in(3) {
         flags |= 0x10;
     }
-    let mut tree = Tree { application, code, ..Tree::of(flags, prng.word(), prng.word(), list) };
+    let mut tree = Tree::of(flags, prng.word(), prng.word(), list);
     extras(&mut tree.list, rows, 1, prng);
     if !prng.one_in(4) {
         prng.shuffle(&mut tree.list[1..]);
@@ -62,23 +45,6 @@ pub fn command(prng: &mut Prng) -> Tree {
     tree
 }
 
-/// A sound command of Nt; at times with names that Nta adds, which are unknown in it.
-fn transfer(prng: &mut Prng) -> Sound {
-    let (flags, rows, mut list) = match prng.below(8) {
-        0..=2 => (0xC0, &rows::BTR, request(prng)),
-        3..=5 => (0x40, &rows::BTA, answer(prng)),
-        _ => (prng.pick(&[0x20, 0x60]), &rows::ERROR_ANSWER, errors::error_answer(prng)),
-    };
-    if prng.one_in(6) {
-        let node = nta::foreign(false, prng);
-        match nta::open_list(&mut list, 1, prng) {
-            Some((members, ..)) if prng.one_in(3) => members.push(node),
-            _ => (0..prng.pick(&[1, 1, 2])).for_each(|_| list.push(node.clone())),
-        }
-    }
-    Sound { application: NT_APPLICATION, code: TRANSFER, flags, rows, list }
-}
-
 /// A sound command with several AVPs of a kind that its own list admits in any number, at times with
 /// one more in a group, or with the most AVPs; rarely one that a limit refuses.
 pub fn repeated(prng: &mut Prng) -> Tree {
@@ -88,7 +54,7 @@ pub fn repeated(prng: &mut Prng) -> Tree {
         let node = known(kind, 1, prng);
         tree.list.insert(1 + prng.below(tree.list.len()), node);
     }
-    let groups = open_groups(&tree.list);
+    let groups = open_groups(&tree);
     if !groups.is_empty() && prng.one_in(2) {
         if let Body::Members(members) = &mut tree.list[prng.pick(&groups)].body {
             members.push(known(kind, 2, prng));
@@ -192,17 +158,17 @@ pub fn known(kind: Kind, depth: usize, prng: &mut Prng) -> Node {
     node(vendor, kind.code(), m, body, prng)
 }
 
-/// An AVP that neither application knows, without M.
+/// An AVP that the dictionary lacks, without M.
 pub fn unknown(prng: &mut Prng) -> Node {
     loop {
         let vendor = prng.pick(&[None, Some(10_415), Some(1), Some(u32::MAX), Some(10_416)]);
         let code = match prng.below(4) {
             0 => prng.word(),
-            1 => prng.pick(Kind::OF_BOTH).code(),
+            1 => prng.pick(Kind::ALL).code(),
             2 => prng.below(700) as u32,
             _ => prng.pick(&[0, 1, 9999, 4200, 4210, 651, 10_415, u32::MAX]),
         };
-        if Dictionary::NTA.kind(vendor.unwrap_or(0), code).is_none() {
+        if Kind::of(vendor.unwrap_or(0), code).is_none() {
             let length = length(prng);
             let body = Body::Data(prng.octets(length));
             return node(vendor, code, false, body, prng);
@@ -242,7 +208,7 @@ fn text(kind: Kind, prng: &mut Prng) -> Vec<u8> {
 
 /// What looks like an AVP and is none.
 fn malformed(prng: &mut Prng) -> Vec<u8> {
-    let mut data = prng.pick(Kind::OF_BOTH).code().to_be_bytes().to_vec();
+    let mut data = prng.pick(Kind::ALL).code().to_be_bytes().to_vec();
     data.push(prng.pick(&[0x00, 0x40, 0xC0, 0xFF, 0x41]));
     data.extend_from_slice(&[0, 0, prng.octet()]);
     let more = prng.below(12);
@@ -271,7 +237,6 @@ fn members(kind: Kind, depth: usize, prng: &mut Prng) -> Vec<Node> {
     let optional: &[Kind] = match kind {
         VendorSpecificApplicationId => &[AuthApplicationId, AcctApplicationId],
         TransferPolicy => &[TimeWindow, RatingGroup, MaxRequestedBandwidthDl, MaxRequestedBandwidthUl],
-        EventReports => &[EventReportingResults],
         _ => &[],
     };
     for &kind in optional {
@@ -320,9 +285,9 @@ fn extras(list: &mut Vec<Node>, rows: &Rows, depth: usize, prng: &mut Prng) {
 fn extra(rows: &Rows, depth: usize, prng: &mut Prng) -> Option<Node> {
     let kind = match prng.below(5) {
         0 | 1 => return Some(unknown(prng)),
-        2 => prng.pick(GROUPS_OF_BOTH),
+        2 => prng.pick(&GROUPS),
         3 => prng.pick(&[ProxyInfo, RouteRecord, SupportedFeatures, Load, RedirectHost, TransferPolicy]),
-        _ => prng.pick(Kind::OF_BOTH),
+        _ => prng.pick(Kind::ALL),
     };
     if rows.single.has(kind) || (depth > 3 && kind.form() == Form::Group) {
         return None;

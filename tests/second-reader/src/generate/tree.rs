@@ -1,11 +1,7 @@
 //! A command as a tree, which may be wrong in many ways, and its octets.
 
 use crate::avp::padded;
-use crate::dictionary::{Dictionary, Kind};
-use crate::generate::sound::GROUPS;
-use crate::header::{Command, HEADER};
-use crate::profile::{dictionary, Profile, NTA_APPLICATION, NT_APPLICATION, TRANSFER};
-use crate::rows::Rows;
+use crate::header::{Command, APPLICATION, COMMAND_CODE, HEADER};
 
 /// What an AVP holds.
 #[derive(Clone, Debug)]
@@ -14,22 +10,6 @@ pub enum Body {
     Data(Vec<u8>),
     /// Members of a read group.
     Members(Vec<Node>),
-}
-
-impl Body {
-    /// Its octets.
-    pub fn octets(&self) -> Vec<u8> {
-        let mut octets = Vec::new();
-        self.encode(&mut octets);
-        octets
-    }
-
-    fn encode(&self, out: &mut Vec<u8>) {
-        match self {
-            Body::Data(data) => out.extend_from_slice(data),
-            Body::Members(members) => members.iter().for_each(|member| member.encode(out)),
-        }
-    }
 }
 
 /// One AVP.
@@ -84,7 +64,10 @@ impl Node {
             out[at + 4] |= 0x80;
             out.extend_from_slice(&vendor.to_be_bytes());
         }
-        self.body.encode(out);
+        match &self.body {
+            Body::Data(data) => out.extend_from_slice(data),
+            Body::Members(members) => members.iter().for_each(|member| member.encode(out)),
+        }
         out.extend_from_slice(&self.tail);
         let honest = out.len() - at;
         let length = self.length.unwrap_or(honest as u32);
@@ -104,13 +87,13 @@ impl Node {
 }
 
 impl Tree {
-    /// A command of Nt with a sound header and this list.
+    /// A command with a sound header and this list.
     pub fn of(flags: u8, hop_by_hop: u32, end_to_end: u32, list: Vec<Node>) -> Tree {
         Tree {
             version: 1,
             flags,
-            code: TRANSFER,
-            application: NT_APPLICATION,
+            code: COMMAND_CODE,
+            application: APPLICATION,
             hop_by_hop,
             end_to_end,
             list,
@@ -121,39 +104,6 @@ impl Tree {
     /// What the command is by R and E.
     pub fn command(&self) -> Command {
         Command::of(self.flags & 0x80 != 0, self.flags & 0x20 != 0)
-    }
-
-    /// Whether it is a command of Nta.
-    pub fn is_of_nta(&self) -> bool {
-        self.application == NTA_APPLICATION
-    }
-
-    /// The AVPs that the command's application knows.
-    pub fn dictionary(&self) -> Dictionary {
-        dictionary(self.application)
-    }
-
-    /// The names that a change of the command takes from: its application's.
-    pub fn kinds(&self) -> &'static [Kind] {
-        if self.is_of_nta() {
-            Kind::ALL
-        } else {
-            Kind::OF_BOTH
-        }
-    }
-
-    /// The read groups among them.
-    pub fn groups(&self) -> &'static [Kind] {
-        if self.is_of_nta() {
-            &GROUPS
-        } else {
-            &GROUPS[..6]
-        }
-    }
-
-    /// The rows of its own list, if application and code have any.
-    pub fn rows(&self) -> Option<&'static Rows> {
-        Some(Profile::of(self.application)?.rows(self.code)?.of(self.command()))
     }
 
     /// The command's octets, a multiple of four of them unless a mutation says otherwise.

@@ -2,7 +2,7 @@
 //! repeated AVPs of accepted commands, and made-up records by their count, depths and the places
 //! behind the count. A trial that lacks a cell has tested less than it says.
 
-use crate::dictionary::{Dictionary, Kind};
+use crate::dictionary::Kind;
 use crate::draft::Draft;
 use crate::record::MOST_AVPS;
 use std::collections::BTreeMap;
@@ -194,7 +194,7 @@ impl SearchCoverage {
         if own < 2 || origin == Origin::MadeUp {
             return;
         }
-        if let Some(kind) = Dictionary::NT.kind(name.0, name.1).filter(|kind| REPEATED.contains(kind)) {
+        if let Some(kind) = Kind::of(name.0, name.1).filter(|kind| REPEATED.contains(kind)) {
             self.count(Cell::Repeated(kind, own.min(MORE)));
             if deeper > 0 {
                 self.count(Cell::RepeatedAndWithin(kind));

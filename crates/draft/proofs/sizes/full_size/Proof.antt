@@ -21,7 +21,7 @@ returns : tie.Need-returns
 returns c =
     let most = header_most c.before.before.args.a.vendor in
     record {
-      is = λ dict s. rw (c.before.header-size.ensures, c.padded-length.ensures.0);
+      is = λ s. rw (c.before.header-size.ensures, c.padded-length.ensures.0);
       small = omega (arith, c.before.header-size.ensures, c.padded-length.ensures.1);
     }
 

@@ -7,11 +7,10 @@ use Prim.Native.Nat.{ℕ, ◌+◌, ◌-◌, ◌*◌, ◌≤◌, ◌<◌, min}
 use native.Mathlib.Omega.{arith}
 use lib.Dec.{eqb}
 use Rattle.rules.specs.declared.Avp.{Avp}
-use Rattle.rules.specs.Dictionary.{Entry}
 use Rattle.rules.specs.Walk.{most_avps}
-use Rattle.rules.specs.Meaning.{cell_of}
 use Rattle.rules.specs.Draft.{full_size}
 use Rattle.numbers.specs.Numbers.{numbered_count, numbered_avp}
+use Rattle.draft.specs.Drafts.{draft_cell}
 use Rattle.draft.specs.Promise.{longest_avp}
 use Rattle.draft.proofs.Positions.{members_left, members_next, members_stop, members_end}
 use Rattle.draft.proofs.sizes.members_size.Statement.{statement}
@@ -22,8 +21,7 @@ invariant-loop numbers from depth used size₀ i₀ size i =
     (used ≡ min (numbered_count numbers) most_avps)
     × ((i ≤ most_avps)
     × ((size ≤ i * longest_avp)
-    × ((dict : List Entry) (s : List ℕ)
-    → size + members_left numbers dict s depth i ≡ members_left numbers dict s depth from)))
+    × ((s : List ℕ) → size + members_left numbers s depth i ≡ members_left numbers s depth from)))
 
 abbrev decreases-loop : tie.decreases-loop
 decreases-loop numbers from depth used size₀ i₀ size i = used - i
@@ -32,7 +30,7 @@ used-requires : tie.Need-used-requires invariant-loop decreases-loop
 used-requires c κs = search rules
 
 loop-holds : tie.Need-loop-init invariant-loop decreases-loop
-loop-holds c = (c.used.ensures, (omega arith, (omega arith, λ dict s. omega arith)))
+loop-holds c = (c.used.ensures, (omega arith, (omega arith, λ s. omega arith)))
 
 get-requires : tie.Need-get-requires invariant-loop decreases-loop
 get-requires c κs = search rules
@@ -50,7 +48,7 @@ returns c =
     let above : (numbered_avp n l.i).depth < a.depth = rw (sym at-get.get.ensures) c.if1.true in
     let used : l.i < min (numbered_count n) most_avps = omega (arith, at-loop-test.loop-test.true, l.invariant.0) in
     record {
-      is = λ dict s. omega (arith, l.invariant.1.1.1 dict s, members_stop n dict s a.depth l.i used above);
+      is = λ s. omega (arith, l.invariant.1.1.1 s, members_stop n s a.depth l.i used above);
       small = omega arith;
     }
 
@@ -75,18 +73,17 @@ loop-again c =
     let n = a.numbers.now in
     let deep : a.depth ≤ (numbered_avp n l.i).depth = rw (sym at-get.get.ensures) c.before.if1.false in
     let used : l.i < min (numbered_count n) most_avps = omega (arith, at-loop-test.loop-test.true, l.invariant.0) in
-    let here : (dict : List Entry) (s : List ℕ) → c.size-at.result
-    ≡ cond (eqb (numbered_avp n l.i).depth a.depth) (full_size (cell_of dict s (numbered_avp n l.i))) 0 =
-    λ dict s.
-    c.size-at.ensures.is dict s
-    ∙ ap (λ (x : Avp). cond (eqb x.depth a.depth) (full_size (cell_of dict s x)) 0) at-get.get.ensures in (
+    let here : (s : List ℕ) → c.size-at.result
+    ≡ cond (eqb (numbered_avp n l.i).depth a.depth) (full_size (draft_cell s (numbered_avp n l.i))) 0 =
+    λ s.
+    c.size-at.ensures.is s
+    ∙ ap (λ (x : Avp). cond (eqb x.depth a.depth) (full_size (draft_cell s x)) 0) at-get.get.ensures in (
       l.invariant.0,
       (
         omega arith,
         (
           omega (arith, c.size-at.ensures.small),
-          λ dict s.
-              omega (arith, l.invariant.1.1.1 dict s, here dict s, members_next n dict s a.depth l.i used deep),
+          λ s. omega (arith, l.invariant.1.1.1 s, here s, members_next n s a.depth l.i used deep),
         ),
       ),
     )
@@ -98,7 +95,7 @@ returns-2 c =
     let n = a.numbers.now in
     let end : min (numbered_count n) most_avps ≤ l.i = omega (arith, c.loop-test.false, l.invariant.0) in
     record {
-      is = λ dict s. omega (arith, l.invariant.1.1.1 dict s, members_end n dict s a.depth l.i end);
+      is = λ s. omega (arith, l.invariant.1.1.1 s, members_end n s a.depth l.i end);
       small = omega arith;
     }
 

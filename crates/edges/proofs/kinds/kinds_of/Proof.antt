@@ -10,8 +10,8 @@ invariant-loop vendor codes code₀ code = code ≤ 4301
 abbrev decreases-loop : tie.decreases-loop
 decreases-loop vendor codes code₀ code = 4301 - code
 
-table-of-requires : tie.Need-table-of-requires invariant-loop decreases-loop
-table-of-requires c κs = search rules
+plain-table-requires : tie.Need-plain-table-requires invariant-loop decreases-loop
+plain-table-requires c κs = search rules
 
 loop-holds : tie.Need-loop-init invariant-loop decreases-loop
 loop-holds c = search rules
@@ -37,7 +37,7 @@ kinds-of-spec =
     (tie.spec
     invariant-loop
     decreases-loop
-    table-of-requires
+    plain-table-requires
     loop-holds
     kind-requires
     add-code

@@ -6,12 +6,10 @@ use Prim.Native.Nat.{ℕ, ◌+◌, ◌-◌, ◌≤◌}
 use native.Mathlib.Omega.{arith}
 use lib.ListN.{length, length-replicate}
 use Rattle.rules.specs.Octets.{padded}
-use Rattle.rules.specs.Profile.{profile}
-use Rattle.rules.specs.Meaning.{cell_of}
 use Rattle.rules.proofs.Octets.{padded_least}
 use Rattle.rules.proofs.demands.items.Sequences.{length-header}
 use Rattle.output.proofs.Output.{put_fits}
-use Rattle.draft.specs.Drafts.{is_group_avp}
+use Rattle.draft.specs.Drafts.{draft_cell, is_group_avp}
 use Rattle.encoding.proofs.Putting.{put_group, put_part, room_header, room_part, data_long}
 use Rattle.encoding.proofs.avps.put_avp.Statement.{statement}
 use Rattle.encoding.proofs.avps.put_avp.Tie as tie
@@ -19,8 +17,7 @@ use Rattle.encoding.proofs.avps.put_avp.Tie as tie
 put-header-requires : tie.Need-put-header-requires
 put-header-requires c κs =
     let start = c.before.before.before in
-    let a = start.args in
-    room_header (profile a.application).entries a.s.now a.a a.at _ start.requires.room
+    room_header start.args.s.now start.args.a start.args.at _ start.requires.room
 
 is-read-group-requires : tie.Need-is-read-group-requires
 is-read-group-requires c κs = search rules
@@ -35,9 +32,8 @@ returns c =
     let start = at-put-header.before.before.before.before in
     let a = start.args in
     let group = sym at-is-read-group.is-read-group.ensures ∙ c.if1.true in
-    let dict = (profile a.application).entries in
-    let header = at-put-header.put-header.ensures dict a.s.now in
-    put_group dict a.s.now a.a start.requires.whole group a.out.now a.at _ _ header
+    let header = at-put-header.put-header.ensures a.s.now in
+    put_group a.s.now a.a start.requires.whole group a.out.now a.at _ _ header
 
 cast-start : tie.Need-overflow-cast-start
 cast-start c = search rules
@@ -55,9 +51,7 @@ part-put-octets-start : tie.Need-slice-bounds-put-octets-start
 part-put-octets-start c = search rules
 
 -- the AVP is no read group
-part : (c : tie.Else1) →
-    let a = c.before.before.before.before.before.before.before.before.args in
-    is_group_avp (profile a.application).entries a.a ≡ false
+part : (c : tie.Else1) → is_group_avp c.before.before.before.before.before.before.before.before.args.a ≡ false
 part c = sym c.before.is-read-group.ensures ∙ c.if1.false
 
 -- the room for the data with its padding, behind the header
@@ -69,10 +63,9 @@ room c =
     let h = c.before.before.before.before in
     let start = h.before.before.before.before in
     let a = start.args in
-    let dict = (profile a.application).entries in
-    let all = room_part dict a.s.now a.a start.requires.whole (part c) a.at _ start.requires.room in
-    let next = (h.put-header.ensures dict a.s.now).ends in
-    omega (arith, all, next, length-header (cell_of dict a.s.now a.a))
+    let all = room_part a.s.now a.a start.requires.whole (part c) a.at _ start.requires.room in
+    let next = (h.put-header.ensures a.s.now).ends in
+    omega (arith, all, next, length-header (draft_cell a.s.now a.a))
 
 part-put-octets-end : tie.Need-slice-bounds-put-octets-end
 part-put-octets-end c =
@@ -121,15 +114,14 @@ returns-2 c =
     let at-put-header = at-if1.before.before.before.before in
     let start = at-put-header.before.before.before.before in
     let a = start.args in
-    let dict = (profile a.application).entries in
-    let header = at-put-header.put-header.ensures dict a.s.now in
-    let long = data_long dict a.s.now a.a start.requires.whole (part at-if1) in
+    let header = at-put-header.put-header.ensures a.s.now in
+    let long = data_long a.s.now a.a start.requires.whole (part at-if1) in
     let least = padded_least a.a.length in
     let run = put_fits _ _ _ a.a.length long (omega (arith, room at-if1)) _ at-octets.put-octets.ensures in
     let n = at-padded-length.padded-length.result - a.a.length in
     let zeros = put_fits _ _ _ n (length-replicate {A = ℕ} n 0) (omega (arith, padded-room at-padded-length)) _
     at-zeros.put-zeros.ensures in
-    put_part dict a.s.now a.a start.requires.whole (part at-if1) a.out.now a.at _ _ header _ run _
+    put_part a.s.now a.a start.requires.whole (part at-if1) a.out.now a.at _ _ header _ run _
     at-padded-length.padded-length.ensures.0 _ zeros
 
 pub put-avp-spec : {M : Type 1} → statement M

@@ -51,7 +51,7 @@ same_length c =
     omega (arith, length-set at_first.put-number4.new.0 (a.at + 4) at-flags.avp-flags.result)
 
 returns : tie.Need-returns
-returns c dict s =
+returns c s =
     let at_second = c.before.before in
     let at-if1 = at_second.before.before.before in
     let at-flags = at-if1.before.before in
@@ -62,8 +62,8 @@ returns c dict s =
     let first = put_fits _ a.at _ 4 (octets_four a.a.code) (omega arith) _ at_first.put-number4.ensures in
     let second = put_fits _ (a.at + 5) _ 3 (octets_three (8 + a.a.length)) (omega arith) _
     at_second.put-number3.ensures in
-    header_without_vendor dict s a.a a.out.now a.at _ first _ (at-flags.avp-flags.ensures dict s) 8 (sym eight) _
-    second at-if1.if1.true
+    header_without_vendor s a.a a.out.now a.at _ first _ (at-flags.avp-flags.ensures s) 8 (sym eight) _ second
+    at-if1.if1.true
 
 add-put-number3-3 : tie.Need-overflow-add-put-number3-3
 add-put-number3-3 c = search rules
@@ -94,7 +94,7 @@ same-length-2 c =
     omega (arith, length-set at_first.put-number4.new.0 (a.at + 4) at-flags.avp-flags.result)
 
 returns-2 : tie.Need-returns-2
-returns-2 c dict s =
+returns-2 c s =
     let at-third = c.before.before in
     let at_second = at-third.before.before.before.before in
     let at-if1 = at_second.before.before.before in
@@ -107,8 +107,8 @@ returns-2 c dict s =
     let second = put_fits _ (a.at + 5) _ 3 (octets_three (12 + a.a.length)) (omega arith) _
     at_second.put-number32.ensures in
     let third = put_fits _ (a.at + 8) _ 4 (octets_four _) (omega arith) _ at-third.put-number42.ensures in
-    header_with_vendor dict s a.a a.out.now a.at _ first _ (at-flags.avp-flags.ensures dict s) 12 (sym twelve) _
-    second at-if1.if1.false _ third
+    header_with_vendor s a.a a.out.now a.at _ first _ (at-flags.avp-flags.ensures s) 12 (sym twelve) _ second
+    at-if1.if1.false _ third
 
 pub put-header-spec : {M : Type 1} → statement M
 put-header-spec =

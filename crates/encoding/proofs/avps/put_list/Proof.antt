@@ -4,19 +4,17 @@ use mathlib.Core.Path.{◌≡◌}
 use Prim.Native.Nat.{◌-◌, min}
 use native.Mathlib.Omega.{arith}
 use lib.ListN.{length}
-use Rattle.rules.specs.Profile.{profile}
 use Rattle.numbers.specs.Numbers.{numbered_count}
 use Rattle.encoding.proofs.Listing.{Left, left_all, left_end, left_can, left_next}
 use Rattle.encoding.proofs.avps.put_list.Statement.{statement}
 use Rattle.encoding.proofs.avps.put_list.Tie as tie
 
 abbrev invariant-loop : tie.invariant-loop
-invariant-loop application out₀ numbers s used at₀ i₀ out at i =
-    (used ≡ min (numbered_count numbers) 256)
-    × ((length out ≡ length out₀) × Left (profile application).entries numbers s out₀ out at i)
+invariant-loop out₀ numbers s used at₀ i₀ out at i =
+    (used ≡ min (numbered_count numbers) 256) × ((length out ≡ length out₀) × Left numbers s out₀ out at i)
 
 abbrev decreases-loop : tie.decreases-loop
-decreases-loop application out₀ numbers s used at₀ i₀ out at i = used - i
+decreases-loop out₀ numbers s used at₀ i₀ out at i = used - i
 
 used-requires : tie.Need-used-requires invariant-loop decreases-loop
 used-requires c κs = search rules
@@ -25,8 +23,7 @@ loop-holds : tie.Need-loop-init invariant-loop decreases-loop
 loop-holds c =
     let start = c.before.before.before in
     let a = start.args in
-    let all = left_all (profile a.application).entries a.numbers.now a.s.now a.out.now start.requires in
-    (c.used.ensures, (search rules, all))
+    (c.used.ensures, (search rules, left_all a.numbers.now a.s.now a.out.now start.requires))
 
 get-requires : tie.Need-get-requires invariant-loop decreases-loop
 get-requires c κs = search rules
@@ -35,8 +32,7 @@ put-avp-requires : tie.Need-put-avp-requires invariant-loop decreases-loop
 put-avp-requires c κs =
     let a = c.before.before.before.before.before.before.before.args in
     let l = c.before.before.before.loop in
-    let dict = (profile a.application).entries in
-    left_can dict a.numbers.now a.s.now a.out.now l.out l.at l.i l.invariant.1.1
+    left_can a.numbers.now a.s.now a.out.now l.out l.at l.i l.invariant.1.1
     (omega (arith, c.before.before.loop-test.true, l.invariant.0)) c.get.result c.get.ensures
 
 add-i : tie.Need-overflow-add-i invariant-loop decreases-loop
@@ -54,8 +50,7 @@ loop-again c =
     let start = at-loop.before.before.before.before in
     let a = start.args in
     let l = at-loop.loop in
-    let dict = (profile a.application).entries in
-    let next = left_next dict a.numbers.now a.s.now a.out.now l.out l.at l.i l.invariant.1.1
+    let next = left_next a.numbers.now a.s.now a.out.now l.out l.at l.i l.invariant.1.1
     (omega (arith, at-loop-test.loop-test.true, l.invariant.0)) at-get.get.result at-get.get.ensures _ _
     at-put-avp.put-avp.ensures in
     (l.invariant.0, (omega arith, next))
@@ -67,8 +62,7 @@ returns : tie.Need-returns invariant-loop decreases-loop
 returns c =
     let a = c.before.before.before.before.before.args in
     let l = c.before.loop in
-    let dict = (profile a.application).entries in
-    left_end dict a.numbers.now a.s.now a.out.now l.out l.at l.i l.invariant.1.1
+    left_end a.numbers.now a.s.now a.out.now l.out l.at l.i l.invariant.1.1
     (omega (arith, c.loop-test.false, l.invariant.0))
 
 pub put-list-spec : {M : Type 1} → statement M

@@ -24,7 +24,7 @@ add-result-2 c = search rules
 
 returns : tie.Need-returns
 unfolding avp_flags
-returns c dict s =
+returns c s =
     let at-m = c.before in
     let at-v = at-m.before in
     let a = at-v.before.before.args.a in

@@ -2,6 +2,7 @@
 use borrow.Author.Rules.{rules}
 use native.Mathlib.Omega.{arith}
 use lib.ListN.{length-set}
+use Rattle.rules.specs.Header.{code_background_data_transfer}
 use Rattle.output.proofs.Output.{octets_three, put_fits}
 use Rattle.encoding.proofs.header.put_start.Statement.{statement}
 use Rattle.encoding.proofs.header.put_start.Tie as tie
@@ -20,9 +21,6 @@ slice-write-out-2 c =
     let start = c.before.before.before.before.before.before in
     omega (arith, length-set start.args.out.now 0 1)
 
-head-of-requires : tie.Need-head-of-requires
-head-of-requires c κs = search rules
-
 cast-put-number3 : tie.Need-overflow-cast-put-number3
 cast-put-number3 c = search rules
 
@@ -31,7 +29,7 @@ put-number3-requires-2 c κs = search rules
 
 same_length : tie.Need-same-length
 same_length c =
-    let at-command-flags = c.before.before.before.before.before.before in
+    let at-command-flags = c.before.before.before.before in
     let at-number3 = at-command-flags.before.before.before in
     let start = at-number3.before.before.before in
     let flags = length-set at-number3.put-number3.new.0 4 at-command-flags.command-flags.result in
@@ -40,17 +38,16 @@ same_length c =
 returns : tie.Need-returns
 returns c =
     let at_second = c.before.before in
-    let at-head-of = at_second.before.before in
-    let at-flags = at-head-of.before.before in
+    let at-flags = at_second.before.before in
     let at_first = at-flags.before.before.before in
     let a = at_first.before.before.before.args in
     let room = length-set a.out.now 0 1 in
     let first = put_fits _ 1 _ 3 (octets_three a.size) (omega (arith, room)) _ at_first.put-number3.ensures in
     let flags = at-flags.command-flags in
     let kept = length-set at_first.put-number3.new.0 4 flags.result in
-    let second = put_fits _ 5 _ 3 (octets_three _) (omega (arith, room, kept)) _
+    let second = put_fits _ 5 _ 3 (octets_three code_background_data_transfer) (omega (arith, room, kept)) _
     at_second.put-number32.ensures in
-    record { is = λ s. rw (second, first, flags.ensures s, at-head-of.head_of.ensures) }
+    record { is = λ s. rw (second, first, flags.ensures s) }
 
 pub put-start-spec : {M : Type 1} → statement M
 put-start-spec =
@@ -60,7 +57,6 @@ put-start-spec =
     put-number3-requires
     command-flags-requires
     slice-write-out-2
-    head-of-requires
     cast-put-number3
     put-number3-requires-2
     same_length

@@ -19,7 +19,7 @@ returns : tie.Need-returns
 returns c =
     let code = c.before in
     let vendor = code.before in
-    rw (vendor.vendor-of.ensures, code.code-of.ensures, vendor.before.search.ensures.is) at c.present.ensures
+    rw (vendor.vendor-of.ensures, code.code_of_lem.ensures, vendor.before.search.ensures.is) at c.present.ensures
 
 pub require-spec : {M : Type 1} → statement M
 require-spec =

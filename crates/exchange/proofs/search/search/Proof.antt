@@ -13,14 +13,14 @@ returns : tie.Need-returns
 returns c =
     let f = c.before in
     let a = f.before.before.args in
-    let size : length a.firsts.now ≡ 55 = search rules in
+    let size : length a.firsts.now ≡ 48 = search rules in
     first_found_lem a.firsts.now size _ a.entry _ f.first_of.ensures c.if1.true
 
 returns-2 : tie.Need-returns-2
 returns-2 c =
     let f = c.before in
     let a = f.before.before.args in
-    let size : length a.firsts.now ≡ 55 = search rules in
+    let size : length a.firsts.now ≡ 48 = search rules in
     first_absent a.firsts.now size _ a.entry _ f.first_of.ensures c.if1.false
 
 pub search-spec : {M : Type 1} → statement M

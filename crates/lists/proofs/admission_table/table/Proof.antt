@@ -1,7 +1,7 @@
 -- `lists::admission_table::table` meets its contract: the equation is computed over the whole table.
 use mathlib.Core.Path.{refl}
 use Rattle.rules.specs.Rows.{rows_of}
-use Rattle.rules.specs.Dictionary.{dictionary, added_nta}
+use Rattle.rules.specs.Dictionary.{dictionary}
 use Rattle.rules.specs.RowChecks.{admission_from}
 use Rattle.lists.specs.ByLog.{admission_at}
 use Rattle.lists.specs.Tables.{admission_in}
@@ -10,5 +10,5 @@ use Rattle.lists.proofs.admission_table.table.Statement.{statement}
 use Rattle.lists.proofs.admission_table.table.Tie as tie
 
 pub table-spec : {M : Type 1} → statement M
-unfolding dictionary added_nta admission_in admission_at admission_from rows_of
+unfolding dictionary admission_in admission_at admission_from rows_of
 table-spec = tie.close (tie.spec (λ c. admission_rule _ refl))

@@ -1,12 +1,12 @@
 -- `lists::admitted::row_of` meets its contract.
 use borrow.Author.Rules.{rules}
-use Rattle.rules.specs.Dictionary.{dictionary, added_nta}
+use Rattle.rules.specs.Dictionary.{dictionary}
 use Rattle.lists.proofs.Tables.{admits_by, admits_none}
 use Rattle.lists.proofs.admitted.row_of.Statement.{statement}
 use Rattle.lists.proofs.admitted.row_of.Tie as tie
 
 returns : tie.Need-returns
-unfolding dictionary added_nta
+unfolding dictionary
 returns c = admits_none _ _ c.if1.true
 
 list-index-requires : tie.Need-list-index-requires
@@ -25,7 +25,7 @@ admission-in-requires : tie.Need-admission-in-requires
 admission-in-requires c κs = search rules
 
 returns-2 : tie.Need-returns-2
-unfolding dictionary added_nta
+unfolding dictionary
 returns-2 c =
     let l = c.before.before in
     let s = l.before.before in

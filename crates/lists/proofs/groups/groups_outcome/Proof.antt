@@ -10,9 +10,9 @@ use Rattle.rules.specs.declared.Outcome.TheVariants.{Pass}
 use Rattle.rules.specs.declared.Members.{Members}
 use Rattle.rules.specs.declared.Members.TheVariants.{Under, NoMembers}
 use Rattle.rules.specs.Verdict.{or_else}
-use Rattle.rules.specs.Dictionary.{members_of}
+use Rattle.rules.specs.Dictionary.{dictionary, members_of}
 use Rattle.rules.proofs.Walk.{never}
-use Rattle.dictionary.specs.Entries.{every_entry, definition_at}
+use Rattle.dictionary.specs.Entries.{definition_at}
 use Rattle.walk_log.specs.Log.{Logged, logged_of, avps_in}
 use Rattle.exchange.specs.Firsts.{find_in}
 use Rattle.lists.specs.ByLog.{family_end, group_at}
@@ -54,7 +54,7 @@ enum_told c = search rules
 members : (c : tie.After-members-of invariant-loop decreases-loop) →
     let l = c.before.before.before in
     let s = l.before.before.args in
-    c.members-of.result ≡ members_of (definition_at every_entry (logged_of s.log.now l.loop.i).entry)
+    c.members-of.result ≡ members_of (definition_at dictionary (logged_of s.log.now l.loop.i).entry)
 members c = rw (← c.before.entry_at.ensures) c.members-of.ensures.is
 
 loop-less : tie.Need-loop-smaller invariant-loop decreases-loop

@@ -2,8 +2,7 @@
 use borrow.Author.Rules.{rules}
 use mathlib.Core.Path.{sym, ◌∙◌}
 use native.Mathlib.Omega.{arith}
-use Rattle.rules.specs.Header.{length_outcome, application_outcome, flags_outcome, header_by, command_flags}
-use Rattle.rules.specs.Profile.{profile}
+use Rattle.rules.specs.Header.{length_outcome, application_outcome, flags_outcome, header_outcome, command_flags}
 use Rattle.rules.specs.Verdict.{or_else}
 use Rattle.rules.proofs.Outcomes.{refused_first, pass_first}
 use Rattle.rules.proofs.Header.{length-enough}
@@ -20,13 +19,12 @@ enum-told-2 : tie.Need-enum-told-2
 enum-told-2 c = search rules
 
 returns : tie.Need-returns
-unfolding header_by
+unfolding header_outcome
 returns c =
     let l = c.before.before in
     let s = l.before.before.args.s.now in
-    let known = application_outcome (profile l.before.before.args.application).applications (profile l.before.before.args.application).codes s in
     let e = l.length-outcome.ensures in
-    e ∙ sym (refused_first (length_outcome s) (or_else known (flags_outcome (command_flags s))) (sym e ∙ c.enum-told2.given.1))
+    e ∙ sym (refused_first (length_outcome s) (or_else (application_outcome s) (flags_outcome (command_flags s))) (sym e ∙ c.enum-told2.given.1))
 
 application-outcome-requires : tie.Need-application-outcome-requires
 application-outcome-requires c κs = search rules
@@ -38,15 +36,14 @@ enum-told-4 : tie.Need-enum-told-4
 enum-told-4 c = search rules
 
 returns-2 : tie.Need-returns-2
-unfolding header_by
+unfolding header_outcome
 returns-2 c =
     let m = c.before.before in
     let l = m.before.before.before in
     let s = l.before.before.args.s.now in
-    let known = application_outcome (profile l.before.before.args.application).applications (profile l.before.before.args.application).codes s in
     let e = m.application-outcome.ensures in
-    e ∙ sym (pass_first (length_outcome s) (or_else known (flags_outcome (command_flags s))) (sym l.length-outcome.ensures ∙ m.before.enum_told.given.1)
-    ∙ refused_first known (flags_outcome (command_flags s)) (sym e ∙ c.enum-told4.given.1))
+    e ∙ sym (pass_first (length_outcome s) (or_else (application_outcome s) (flags_outcome (command_flags s))) (sym l.length-outcome.ensures ∙ m.before.enum_told.given.1)
+    ∙ refused_first (application_outcome s) (flags_outcome (command_flags s)) (sym e ∙ c.enum-told4.given.1))
 
 shared-slice-read-flags-outcome : tie.Need-shared-slice-read-flags-outcome
 shared-slice-read-flags-outcome c =
@@ -58,16 +55,15 @@ flags-outcome-requires : tie.Need-flags-outcome-requires
 flags-outcome-requires c κs = search rules
 
 returns-3 : tie.Need-returns-3
-unfolding header_by
+unfolding header_outcome
 returns-3 c =
     let t = c.before.before in
     let m = t.before.before in
     let l = m.before.before.before in
     let s = l.before.before.args.s.now in
-    let known = application_outcome (profile l.before.before.args.application).applications (profile l.before.before.args.application).codes s in
     c.flags-outcome.ensures
-    ∙ sym (pass_first (length_outcome s) (or_else known (flags_outcome (command_flags s))) (sym l.length-outcome.ensures ∙ m.before.enum_told.given.1)
-    ∙ pass_first known (flags_outcome (command_flags s)) (sym m.application-outcome.ensures ∙ t.enum-told3.given.1))
+    ∙ sym (pass_first (length_outcome s) (or_else (application_outcome s) (flags_outcome (command_flags s))) (sym l.length-outcome.ensures ∙ m.before.enum_told.given.1)
+    ∙ pass_first (application_outcome s) (flags_outcome (command_flags s)) (sym m.application-outcome.ensures ∙ t.enum-told3.given.1))
 
 pub header-outcome-spec : {M : Type 1} → statement M
 header-outcome-spec =

@@ -1,41 +1,31 @@
 -- `reader::judge::command_rules` meets its contract.
 use borrow.Author.Rules.{rules}
+use mathlib.Core.Path.{sym, ◌∙◌}
+use Rattle.rules.specs.Command.{rules_by}
 use Rattle.reader.proofs.judge.command_rules.Statement.{statement}
 use Rattle.reader.proofs.judge.command_rules.Tie as tie
 
-enum_told : tie.Need-enum-told
-enum_told c = search rules
-
-rules-nt-requires : tie.Need-rules-nt-requires
-rules-nt-requires c κs = search rules
-
-enum-told-2 : tie.Need-enum-told-2
-enum-told-2 c = search rules
-
-rules-nta-requires : tie.Need-rules-nta-requires
-rules-nta-requires c κs = search rules
-
-enum-told-3 : tie.Need-enum-told-3
-enum-told-3 c = search rules
+has-flag-requires : tie.Need-has-flag-requires
+has-flag-requires c κs = search rules
 
 returns : tie.Need-returns
-returns c = rw c.before.enum_told.given.1 c.rules-nt.ensures
+unfolding rules_by
+returns c = rw (sym c.before.has-flag.ensures ∙ c.if1.true)
+
+has-flag-requires-2 : tie.Need-has-flag-requires-2
+has-flag-requires-2 c κs = search rules
 
 returns-2 : tie.Need-returns-2
-returns-2 c = rw c.before.enum-told2.given.1 c.rules-nta.ensures
+unfolding rules_by
+returns-2 c =
+    let e = c.before in
+    rw (sym e.before.before.has-flag.ensures ∙ e.before.if1.false, sym e.has-flag2.ensures ∙ c.if2.true)
 
 returns-3 : tie.Need-returns-3
-returns-3 c = rw c.enum-told3.given.1
+unfolding rules_by
+returns-3 c =
+    let e = c.before in
+    rw (sym e.before.before.has-flag.ensures ∙ e.before.if1.false, sym e.has-flag2.ensures ∙ c.if2.false)
 
 pub command-rules-spec : {M : Type 1} → statement M
-command-rules-spec =
-    tie.close
-    (tie.spec
-    enum_told
-    rules-nt-requires
-    enum-told-2
-    rules-nta-requires
-    enum-told-3
-    returns
-    returns-2
-    returns-3)
+command-rules-spec = tie.close (tie.spec has-flag-requires returns has-flag-requires-2 returns-2 returns-3)

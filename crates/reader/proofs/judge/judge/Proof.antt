@@ -1,56 +1,49 @@
 -- `reader::judge::judge` meets its contract.
 use borrow.Author.Rules.{rules}
 use mathlib.Core.Path.{sym, ◌∙◌}
-use Rattle.reader.proofs.Order.{headed_passes, headed_fails, header_refused, made_table, judged_right}
+use Rattle.reader.proofs.Order.{header_refused, judged_right}
 use Rattle.reader.proofs.judge.judge.Statement.{statement}
 use Rattle.reader.proofs.judge.judge.Tie as tie
 
-header-requires : tie.Need-header-requires
-header-requires c κs = search rules
+header-outcome-requires : tie.Need-header-outcome-requires
+header-outcome-requires c κs = search rules
 
-enum-known-header : tie.Need-enum-known-header
-enum-known-header c = search rules
+enum_told : tie.Need-enum-told
+enum_told c = search rules
 
-refused-requires : tie.Need-refused-requires
-refused-requires c κs = search rules
-
-enum-known-header-2 : tie.Need-enum-known-header-2
-enum-known-header-2 c = search rules
-
-table-of-requires : tie.Need-table-of-requires
-table-of-requires c κs = search rules
-
-judge-avps-requires : tie.Need-judge-avps-requires
-judge-avps-requires c κs =
-    let h = c.before.before.before.before.before.before in
-    headed_passes h.before.before.args.s.now _ (sym h.header.ensures ∙ c.before.before.before.before.header3.given.1)
+enum-told-2 : tie.Need-enum-told-2
+enum-told-2 c = search rules
 
 returns : tie.Need-returns
 returns c =
-    let h = c.before.before.before.before in
+    let h = c.before.before in
     let a = h.before.before.args in
-    rw c.refused.ensures
-    (header_refused a.s.now a.log.now _
-    (headed_fails a.s.now _ (sym h.header.ensures ∙ c.before.before.header2.given.1)))
+    header_refused a.s.now a.log.now _ h.header-outcome.ensures c.enum-told2.given.1
+
+plain-table-requires : tie.Need-plain-table-requires
+plain-table-requires c κs = search rules
+
+judge-avps-requires : tie.Need-judge-avps-requires
+judge-avps-requires c κs =
+    let t = c.before.before.before in
+    let h = t.before.before in
+    sym h.header-outcome.ensures ∙ t.enum_told.given.1
 
 returns-2 : tie.Need-returns-2
 returns-2 c =
     let p = c.before.before.before in
-    let h = p.before.before.before.before in
+    let h = p.before.before.before in
     let a = h.before.before.args in
-    let of = headed_passes a.s.now _ (sym h.header.ensures ∙ p.before.before.header3.given.1) in
-    judged_right a.s.now p.table_of.result (made_table a.s.now _ _ of p.table_of.ensures) a.log.now
-    c.judge-avps.ensures
+    judged_right p.plain-table.result p.plain-table.ensures a.s.now a.log.now c.judge-avps.ensures
 
 pub judge-spec : {M : Type 1} → statement M
 judge-spec =
     tie.close
     (tie.spec
-    header-requires
-    enum-known-header
-    refused-requires
-    enum-known-header-2
-    table-of-requires
-    judge-avps-requires
+    header-outcome-requires
+    enum_told
+    enum-told-2
     returns
+    plain-table-requires
+    judge-avps-requires
     returns-2)

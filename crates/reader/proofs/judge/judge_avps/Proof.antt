@@ -16,15 +16,14 @@ enum-known-walked-2 c = search rules
 lists-outcome-requires : tie.Need-lists-outcome-requires
 lists-outcome-requires c κs =
     let st = c.before.before.before.before.before.before.before in
-    let s = st.args.s.now in
-    (header_long st.args.table.now s st.requires.passes, header_short st.args.table.now s st.requires.passes, st.requires.is)
+    (header_long st.args.table.now st.args.s.now st.requires, header_short st.args.table.now st.args.s.now st.requires)
 
 returns : tie.Need-returns
 returns c =
     let w = c.before.before.before in
     let st = w.before.before.before in
     let a = st.args in
-    judged_stopped a.table.now a.s.now st.requires.passes a.log.now _ _ w.walk-command.ensures _ _ c.before.walked.given.1
+    judged_stopped a.table.now a.s.now st.requires a.log.now _ _ w.walk-command.ensures _ _ c.before.walked.given.1
 
 returns-2 : tie.Need-returns-2
 returns-2 c =
@@ -32,7 +31,7 @@ returns-2 c =
     let w = k.before.before in
     let st = w.before.before.before in
     let a = st.args in
-    judged_whole a.table.now a.s.now st.requires.passes a.log.now _ _ w.walk-command.ensures _ k.walked2.given.1 _ c.lists-outcome.ensures
+    judged_whole a.table.now a.s.now st.requires a.log.now _ _ w.walk-command.ensures _ k.walked2.given.1 _ c.lists-outcome.ensures
 
 pub judge-avps-spec : {M : Type 1} → statement M
 judge-avps-spec =

@@ -22,47 +22,28 @@ has-flag-requires-3 c κs = search rules
 has-flag-requires-4 : tie.Need-has-flag-requires-4
 has-flag-requires-4 c κs = search rules
 
-number3-requires : tie.Need-number3-requires
-number3-requires c κs = search rules
-
 number4-requires : tie.Need-number4-requires
 number4-requires c κs = search rules
 
 number4-requires-2 : tie.Need-number4-requires-2
 number4-requires-2 c κs = search rules
 
-number4-requires-3 : tie.Need-number4-requires-3
-number4-requires-3 c κs = search rules
-
-cast-t15 : tie.Need-overflow-cast-t15
-cast-t15 c = search rules
+cast-t13 : tie.Need-overflow-cast-t13
+cast-t13 c = search rules
 
 avps-of-requires : tie.Need-avps-of-requires
 avps-of-requires c κs = search rules
 
 returns : tie.Need-returns
 returns c =
-    let end = c.before in
-    let hop = end.before in
-    let application = hop.before in
-    let code = application.before in
-    let t = code.before in
+    let i = c.before.before in
+    let t = i.before in
     let e = t.before in
     let p = e.before in
     let r = p.before in
     let st = r.before.before.before in
     let a = st.args in
-    rw (
-      r.has-flag.ensures,
-      p.has-flag2.ensures,
-      e.has-flag3.ensures,
-      t.has-flag4.ensures,
-      code.number3.ensures.is,
-      application.number4.ensures.is,
-      hop.number42.ensures.is,
-      end.number43.ensures.is,
-      c.avps-of.ensures,
-    )
+    rw (r.has-flag.ensures, p.has-flag2.ensures, e.has-flag3.ensures, t.has-flag4.ensures, i.number4.ensures.is, c.before.number42.ensures.is, c.avps-of.ensures)
     (sym (record_is a.s.now (avps_in a.log.now a.count) a.count (length-avps_in a.log.now a.count st.requires.1)))
 
 pub record-of-spec : {M : Type 1} → statement M
@@ -74,10 +55,8 @@ record-of-spec =
     has-flag-requires-2
     has-flag-requires-3
     has-flag-requires-4
-    number3-requires
     number4-requires
     number4-requires-2
-    number4-requires-3
-    cast-t15
+    cast-t13
     avps-of-requires
     returns)

@@ -9,16 +9,14 @@ use Rattle.rules.specs.declared.Avp.{Avp}
 use Rattle.rules.specs.declared.Outcome.TheVariants.{Pass}
 use Rattle.rules.specs.declared.ExchangeRules.{ExchangeRules}
 use Rattle.rules.specs.Octets.{AreOctets}
-use Rattle.rules.specs.Header.{length_field, command_flags, is_request, is_proxiable, is_error, command_code, application, flags_outcome, header_by}
-use Rattle.rules.specs.Dictionary.{Entry}
-use Rattle.rules.specs.Profile.{application_of, profile_of}
+use Rattle.rules.specs.Header.{length_field, command_flags, is_request, is_proxiable, is_error, flags_outcome, header_outcome}
+use Rattle.rules.specs.Dictionary.{Entry, dictionary}
 use Rattle.rules.specs.Walk.{whole, avps_of}
 use Rattle.rules.specs.Exchange.{exchange_outcome}
-use Rattle.rules.specs.Command.{lists_outcome_by, outcome_by, chosen, header_outcome, command_rules, walk_of, lists_outcome, command_outcome}
+use Rattle.rules.specs.Command.{rules_by, command_rules, walk_of, lists_outcome, command_outcome}
 use Rattle.rules.specs.Meaning.{Cell, meaning_of, cell_of}
 use Rattle.rules.specs.Wire.{list_octets, command_octets}
 use Rattle.rules.proofs.Header.{length-pass, application_pass}
-use Rattle.rules.proofs.Profiles.{Suits, suits}
 use Rattle.rules.proofs.demands.items.Items.{Item, cell_in, octets_of, avps_at, All, Fit, Listed, judged}
 use Rattle.rules.proofs.demands.items.Trees.{size_of}
 use Rattle.rules.proofs.demands.items.Lists.{tights, size_octets}
@@ -26,6 +24,7 @@ use Rattle.rules.proofs.demands.written.Headers.{command_long, command_list}
 use Rattle.rules.proofs.demands.written.Writing.{zeroed, cells_zeroed, list_octets_lem, Writable, head_written, walk_written, meaning_written}
 use Rattle.rules.proofs.demands.octets.Digits.{number_at_below}
 use Rattle.rules.proofs.demands.read.Commands.{AcceptedItems, cells_are}
+use Rattle.rules.proofs.demands.again.Contents.{four_4203, four_4205, four_4206}
 use Rattle.rules.proofs.demands.again.Passes.{Passes, passes_of, judged_whole, avps_same, passes_again, numbers_again}
 use Rattle.rules.proofs.demands.again.Exchanges.{exchange_same}
 
@@ -66,30 +65,18 @@ flags_same : (f g : ℕ) → is_request f ≡ is_request g → is_proxiable f �
 unfolding flags_outcome
 flags_same f g r p e = rw (r, p, e)
 
--- and the choice of what a command is judged by the application, the command code, R and E
-rules_same : (s t : List ℕ) → Suits (chosen s) → application t ≡ application s → command_code t ≡ command_code s
-    → is_request (command_flags t) ≡ is_request (command_flags s) → is_error (command_flags t) ≡ is_error (command_flags s)
-    → command_rules s ≡ command_rules t
-rules_same s t needs a c r e =
-    needs.rules_by_lem (command_code s) (command_flags s) (command_flags t) (sym r) (sym e)
-    ∙ ap (λ (code : ℕ). (chosen s).rules code (command_flags t)) (sym c)
-    ∙ ap (λ (number : ℕ). (profile_of number).rules (command_code t) (command_flags t)) (sym a)
+-- and the choice of what a command is judged by reads R and E
+rules_same : (f g : ℕ) → is_request f ≡ is_request g → is_error f ≡ is_error g → rules_by f ≡ rules_by g
+unfolding rules_by
+rules_same f g r e = rw (r, e)
 
 lists_same : (s t : List ℕ) (xs : List Avp) → length s ≡ length t → command_rules s ≡ command_rules t
     → ((rules : ExchangeRules) (end : ℕ) → exchange_outcome rules xs s end ≡ exchange_outcome rules xs t end)
-    → (chosen s).entries ≡ (chosen t).entries
     → lists_outcome s xs ≡ lists_outcome t xs
-unfolding lists_outcome lists_outcome_by
-lists_same s t xs l r e d = rw (l, r, d, e (command_rules t).exchange (length t))
+unfolding lists_outcome
+lists_same s t xs l r e = rw (l, r, e (command_rules t).exchange (length t))
 
-module _ (c : List ℕ) (oct : AreOctets c) (k : AcceptedItems (chosen c) c) where
-  abbrev dict : List Entry
-  dict = (chosen c).entries
-
-  -- what is needed of its profile
-  needs : Suits (chosen c)
-  needs = suits (application_of (application c)) (application c) k.header.application_known
-
+module _ (c : List ℕ) (oct : AreOctets c) (k : AcceptedItems c) where
   -- the octets that the writer gives
   abbrev again : List ℕ
   again = command_octets (meaning_of c)
@@ -98,11 +85,11 @@ module _ (c : List ℕ) (oct : AreOctets c) (k : AcceptedItems (chosen c) c) whe
   zeros = map zeroed (map cell_in k.items)
 
   again_octets : list_octets (meaning_of c).cells ≡ octets_of zeros
-  again_octets = ap list_octets (cells_are (chosen c) c k) ∙ list_octets_lem (map cell_in k.items)
+  again_octets = ap list_octets (cells_are c k) ∙ list_octets_lem (map cell_in k.items)
 
   pub again_long : length again ≡ length c
   again_long =
-      let l = long_zeroed dict 1 k.items k.listed in
+      let l = long_zeroed dictionary 1 k.items k.listed in
       command_long (meaning_of c) ∙ rw again_octets (omega (arith, k.long))
 
   pub again_writable : Writable (meaning_of c)
@@ -111,39 +98,35 @@ module _ (c : List ℕ) (oct : AreOctets c) (k : AcceptedItems (chosen c) c) whe
       let within = k.header.within in
       let long = again_long in
       record {
-        small = record {
-          code_small = number_at_below 3 c 5 oct (omega arith);
-          application_small = number_at_below 4 c 8 oct (omega arith);
-          hop_small = number_at_below 4 c 12 oct (omega arith);
-          end_small = number_at_below 4 c 16 oct (omega arith);
-        };
-        count_is = sym (length-map (avps_of (walk_of c)) (cell_of dict c));
-        listed = rw (cells_are (chosen c) c k) (listed_zeroed dict 1 k.items k.listed);
+        hop_small = number_at_below 4 c 12 oct (omega arith);
+        end_small = number_at_below 4 c 16 oct (omega arith);
+        count_is = sym (length-map (avps_of (walk_of c)) (cell_of dictionary c));
+        listed = rw (cells_are c k) (listed_zeroed dictionary 1 k.items k.listed);
         long = omega arith;
       }
 
   again_tail : drop 20 again ≡ octets_of zeros
   again_tail = command_list (meaning_of c) ∙ again_octets
 
-  passes : Passes dict c 20 k.items
-  passes = passes_of dict c k.items 0 20 (avps_at 20 k.items) k.judged_is
+  passes : Passes dictionary c 20 k.items
+  passes = passes_of dictionary c k.items 0 20 (avps_at 20 k.items) k.judged_is
 
   again_walk : walk_of again ≡ whole (avps_at 20 k.items)
   again_walk =
       let f = k.listed.fit in
-      let g = fits_zeroed dict k.items f in
+      let g = fits_zeroed dictionary k.items f in
       let e = sym (cells_zeroed (map cell_in k.items)) in
       let n : length zeros ≡ length k.items =
       length-map (map cell_in k.items) zeroed ∙ length-map k.items cell_in in
       let few = k.few in
       walk_written (meaning_of c) again_writable
-      ∙ ap (λ (l : List Cell). judged dict again 0 20 (map zeroed l)) (cells_are (chosen c) c k)
-      ∙ judged_whole dict again zeros 0 20 (omega arith)
-      (passes_again dict c again needs.session_state needs.request_type k.items zeros 20 f g e k.tail again_tail passes)
-      ∙ ap whole (sym (avps_same dict k.items zeros 20 f g e))
+      ∙ ap (λ (l : List Cell). judged dictionary again 0 20 (map zeroed l)) (cells_are c k)
+      ∙ judged_whole dictionary again zeros 0 20 (omega arith)
+      (passes_again c again k.items zeros 20 f g e k.tail again_tail passes)
+      ∙ ap whole (sym (avps_same dictionary k.items zeros 20 f g e))
 
   again_header : header_outcome again ≡ Pass
-  unfolding header_outcome header_by
+  unfolding header_outcome
   again_header =
       let h = head_written (meaning_of c) again_writable in
       let own = k.header in
@@ -159,9 +142,7 @@ module _ (c : List ℕ) (oct : AreOctets c) (k : AcceptedItems (chosen c) c) whe
       rw (
         length-pass again (omega arith) h.version_is (omega arith) (ap (λ (n : ℕ). n % 4) q ∙ own.four) field'
             (omega arith),
-        h.application_is,
-        application_pass (chosen c).applications (chosen c).codes again (rw h.application_is own.application_known)
-            (rw h.code_is own.code_known),
+        application_pass again h.application_is h.code_is,
         f,
       )
 
@@ -169,20 +150,19 @@ module _ (c : List ℕ) (oct : AreOctets c) (k : AcceptedItems (chosen c) c) whe
   again_lists =
       let xs = avps_at 20 k.items in
       let f = k.listed.fit in
-      let g = fits_zeroed dict k.items f in
+      let g = fits_zeroed dictionary k.items f in
       let e = sym (cells_zeroed (map cell_in k.items)) in
       let h = head_written (meaning_of c) again_writable in
       sym (lists_same c again xs (sym again_long)
-      (rules_same c again needs h.application_is h.code_is h.flags_are.first h.flags_are.third)
+      (rules_same (command_flags c) (command_flags again) (sym h.flags_are.first) (sym h.flags_are.third))
       (exchange_same xs c again
-      (numbers_again dict c again 10415 4203 needs.request_type refl k.items zeros 20 f g e k.tail again_tail passes)
-      (numbers_again dict c again 10415 4205 needs.end_time refl k.items zeros 20 f g e k.tail again_tail passes)
-      (numbers_again dict c again 10415 4206 needs.start_time refl k.items zeros 20 f g e k.tail again_tail passes))
-      (rw h.application_is))
+      (numbers_again c again 10415 4203 four_4203 refl k.items zeros 20 f g e k.tail again_tail passes)
+      (numbers_again c again 10415 4205 four_4205 refl k.items zeros 20 f g e k.tail again_tail passes)
+      (numbers_again c again 10415 4206 four_4206 refl k.items zeros 20 f g e k.tail again_tail passes)))
       ∙ k.lists
 
   pub again_accepted : command_outcome again ≡ Pass
-  unfolding command_outcome outcome_by header_outcome walk_of lists_outcome
+  unfolding command_outcome
   again_accepted = rw (again_header, again_walk, again_lists)
 
   pub again_means : meaning_of again ≡ meaning_of c

@@ -9,10 +9,12 @@ use borrow.Author.Tests.{eqb-true, not-false}
 use lib.Dec.{eqb}
 use lib.ListN.{length, get_or, drop}
 use Rattle.rules.specs.declared.Avp.{Avp}
+use Rattle.rules.specs.declared.Form.TheVariants.{Fixed}
+use Rattle.rules.specs.declared.Definition.TheVariants.{Known}
 use Rattle.rules.specs.declared.Outcome.TheVariants.{Pass}
 use Rattle.rules.specs.Octets.{number_at}
 use Rattle.rules.specs.Avp.{flags_at, named}
-use Rattle.rules.specs.Dictionary.{Entry, find, is_group}
+use Rattle.rules.specs.Dictionary.{dictionary, find, is_group}
 use Rattle.rules.specs.Walk.{contents, wrong_width, wrong_value}
 use Rattle.rules.specs.Meaning.{Cell}
 use Rattle.rules.specs.Wire.{has_vendor, avp_header}
@@ -20,7 +22,6 @@ use Rattle.rules.proofs.Tests.{and_true}
 use Rattle.rules.proofs.Fields.{header_least}
 use Rattle.rules.proofs.Walk.{by_cases, contents_pass}
 use Rattle.rules.proofs.Passed.{Clear, passed}
-use Rattle.rules.proofs.Profiles.{Four}
 use Rattle.rules.proofs.demands.items.Items.{Item, avp_of, Fit}
 use Rattle.rules.proofs.demands.written.Judged.{contents_of}
 use Rattle.rules.proofs.demands.agreement.Depths.{flat}
@@ -28,12 +29,30 @@ use Rattle.rules.proofs.demands.agreement.Paddings.{front}
 use Rattle.rules.proofs.demands.agreement.Places.{number_same}
 use Rattle.rules.proofs.demands.agreement.Alike.{front_same, own_octet, lies}
 
--- an AVP of four octets that passed check 5
-four_wide : (dict : List Entry) (a : Avp) (vendor code : ℕ) → Four dict vendor code → named a vendor code ≡ true
-    → wrong_width a (find dict a.vendor a.code) ≡ false
-    → (a.length ≡ 4) × (is_group (find dict a.vendor a.code) ≡ false)
+-- ---- names whose data is four octets
+
+pub record Four (vendor code : ℕ) : Type 0 where
+  pub m : Bool
+  pub is : find dictionary vendor code ≡ Known m (Fixed 4)
+
+pub four_277 : Four 0 277
+four_277 = record { m = true; is = unfold dictionary find in refl }
+
+pub four_4203 : Four 10415 4203
+four_4203 = record { m = true; is = unfold dictionary find in refl }
+
+pub four_4205 : Four 10415 4205
+four_4205 = record { m = true; is = unfold dictionary find in refl }
+
+pub four_4206 : Four 10415 4206
+four_4206 = record { m = true; is = unfold dictionary find in refl }
+
+-- an AVP of such a name that passed check 5
+four_wide : (a : Avp) (vendor code : ℕ) → Four vendor code → named a vendor code ≡ true
+    → wrong_width a (find dictionary a.vendor a.code) ≡ false
+    → (a.length ≡ 4) × (is_group (find dictionary a.vendor a.code) ≡ false)
 unfolding wrong_width
-four_wide dict a vendor code f n w =
+four_wide a vendor code f n w =
     let b = and_true (eqb a.vendor vendor) (eqb a.code code) n in
     let v = eqb-true a.vendor vendor b.0 in
     let k = eqb-true a.code code b.1 in
@@ -51,42 +70,42 @@ value_same a n n' f g =
 
 -- ---- one item
 
-module _ (dict : List Entry) (s t : List ℕ) (at : ℕ) (x y : Item) (fit : Fit dict x) (same : x.cell ≡ y.cell) (rs rt : List ℕ)
+module _ (s t : List ℕ) (at : ℕ) (x y : Item) (fit : Fit dictionary x) (same : x.cell ≡ y.cell) (rs rt : List ℕ)
     (es : drop at s ≡ avp_header x.cell ++ (x.cell.octets ++ rs))
     (et : drop at t ≡ avp_header y.cell ++ (y.cell.octets ++ rt))
-    (pass : contents_of dict s at x ≡ Pass)
+    (pass : contents_of dictionary s at x ≡ Pass)
   where
     own_same : (i : ℕ) → at ≤ i → i < at + front x → get_or s i 0 ≡ get_or t i 0
     own_same i h k =
         let f = front_same x y (ap flat same) in
-        own_octet dict s rs at i x es h k
+        own_octet dictionary s rs at i x es h k
         ∙ ap (λ (c : Cell). get_or (avp_header c ++ c.octets) (i - at) 0) same
-        ∙ sym (own_octet dict t rt at i y et h (omega arith))
+        ∙ sym (own_octet dictionary t rt at i y et h (omega arith))
 
-    clear : Clear (flags_at s at) (avp_of at x) (find dict x.cell.vendor x.cell.code)
+    clear : Clear (flags_at s at) (avp_of at x) (find dictionary x.cell.vendor x.cell.code)
         (number_at 4 s (avp_of at x).start)
-    clear = passed s at (avp_of at x) (find dict x.cell.vendor x.cell.code) pass
+    clear = passed s at (avp_of at x) (find dictionary x.cell.vendor x.cell.code) pass
 
-    pub four_same : (vendor code : ℕ) → Four dict vendor code → named (avp_of at x) vendor code ≡ true
+    pub four_same : (vendor code : ℕ) → Four vendor code → named (avp_of at x) vendor code ≡ true
         → number_at 4 s (avp_of at x).start ≡ number_at 4 t (avp_of at x).start
     four_same vendor code f n =
-        let w = four_wide dict (avp_of at x) vendor code f n clear.width in
+        let w = four_wide (avp_of at x) vendor code f n clear.width in
         let own : length x.cell.octets ≡ 4 = fit.data_is ∙ rw w.1 w.0 in
-        let ls = lies dict at x s rs es in
-        let lt = lies dict at y t rt et in
+        let ls = lies dictionary at x s rs es in
+        let lt = lies dictionary at y t rt et in
         let fr = front_same x y (ap flat same) in
         number_same s t 4 (avp_of at x).start (omega arith) (omega arith)
         (λ i h k. own_same i (omega arith) (omega arith))
 
-    pub contents_again : Four dict 0 277 → Four dict 10415 4203 → contents_of dict t at y ≡ Pass
-    contents_again state type =
+    pub contents_again : contents_of dictionary t at y ≡ Pass
+    contents_again =
         let a = avp_of at x in
-        let d = find dict x.cell.vendor x.cell.code in
+        let d = find dictionary x.cell.vendor x.cell.code in
         let h = header_least (has_vendor x.cell) in
         let f : flags_at s at ≡ flags_at t at = own_same (at + 4) (omega arith) (omega arith) in
-        let v = value_same a (number_at 4 s a.start) (number_at 4 t a.start) (four_same 0 277 state)
-        (four_same 10415 4203 type) in
+        let v = value_same a (number_at 4 s a.start) (number_at 4 t a.start) (four_same 0 277 four_277)
+        (four_same 10415 4203 four_4203) in
         let c : contents t at a d ≡ Pass =
         contents_pass t at a d (rw f at clear.flags) clear.known clear.width (sym v ∙ clear.value)
         clear.level in
-        ap (λ (q : Cell). contents_of dict t at (record { cell = q; padding = [] })) (sym same) ∙ c
+        ap (λ (q : Cell). contents_of dictionary t at (record { cell = q; padding = [] })) (sym same) ∙ c

@@ -6,7 +6,7 @@ use mathlib.Core.List.{List, [], ◌∷◌}
 use Prim.Native.Nat.{ℕ, ◌+◌}
 use Rattle.rules.specs.declared.Avp.{Avp}
 use Rattle.rules.specs.declared.ExchangeRules.{ExchangeRules}
-use Rattle.rules.specs.declared.ExchangeRules.TheVariants.{OfRequest, OfAnswer, WindowsAlone, NoRules}
+use Rattle.rules.specs.declared.ExchangeRules.TheVariants.{OfRequest, OfAnswer, WindowsAlone}
 use Rattle.rules.specs.declared.Found.{Found}
 use Rattle.rules.specs.declared.Found.TheVariants.{At, Nothing}
 use Rattle.rules.specs.Octets.{number_at}
@@ -65,4 +65,3 @@ module _ (xs : List Avp) (s t : List ℕ) where
     exchange_same OfRequest end = rw (request_same end, windows_same 0 xs)
     exchange_same OfAnswer end = rw (windows_same 0 xs)
     exchange_same WindowsAlone end = windows_same 0 xs
-    exchange_same NoRules end = refl

@@ -11,11 +11,10 @@ use Rattle.rules.specs.declared.Avp.{Avp}
 use Rattle.rules.specs.declared.Outcome.TheVariants.{Pass}
 use Rattle.rules.specs.Octets.{number_at}
 use Rattle.rules.specs.Avp.{named}
-use Rattle.rules.specs.Dictionary.{Entry}
+use Rattle.rules.specs.Dictionary.{Entry, dictionary}
 use Rattle.rules.specs.Walk.{whole, after}
 use Rattle.rules.specs.Search.{blank, avp_in}
 use Rattle.rules.specs.Meaning.{Cell}
-use Rattle.rules.proofs.Profiles.{Four}
 use Rattle.rules.proofs.demands.items.Items.{Item, cell_in, octets_of, step, avp_of, avps_at, All, Fit, judged}
 use Rattle.rules.proofs.demands.items.Sequences.{octets_cons, past_item, avps_nil, avps_cons}
 use Rattle.rules.proofs.demands.items.Lists.{not_both}
@@ -23,7 +22,7 @@ use Rattle.rules.proofs.demands.written.Judged.{contents_of, judged_pass, judged
 use Rattle.rules.proofs.demands.written.Cells.{first_passes}
 use Rattle.rules.proofs.demands.agreement.Depths.{flat}
 use Rattle.rules.proofs.demands.agreement.Alike.{step_same}
-use Rattle.rules.proofs.demands.again.Contents.{four_same, contents_again}
+use Rattle.rules.proofs.demands.again.Contents.{Four, four_same, contents_again}
 
 -- ---- all items pass
 
@@ -67,7 +66,7 @@ avps_same dict (x ∷ xs) (y ∷ ys) at f g e =
       avps_same dict xs ys (at + step y) f.1 g.1 e',
     )
 
-module _ (dict : List Entry) (s t : List ℕ) where
+module _ (s t : List ℕ) where
   -- what two lists of the same cells have behind their first items
   record Behind (x y : Item) (xs ys : List Item) (at : ℕ) : Type 0 where
     cell : x.cell ≡ y.cell
@@ -76,12 +75,12 @@ module _ (dict : List Entry) (s t : List ℕ) where
     left : drop (at + step x) s ≡ octets_of xs
     right : drop (at + step x) t ≡ octets_of ys
 
-  behind : (x y : Item) (xs ys : List Item) (at : ℕ) → Fit dict x → Fit dict y
+  behind : (x y : Item) (xs ys : List Item) (at : ℕ) → Fit dictionary x → Fit dictionary y
       → map cell_in (x ∷ xs) ≡ map cell_in (y ∷ ys)
       → drop at s ≡ octets_of (x ∷ xs) → drop at t ≡ octets_of (y ∷ ys) → Behind x y xs ys at
   behind x y xs ys at f g e es et =
       let c : x.cell ≡ y.cell = cc in
-      let st = step_same dict x y f g (ap flat c) in
+      let st = step_same dictionary x y f g (ap flat c) in
       record {
         cell = c;
         cells = cc;
@@ -90,25 +89,24 @@ module _ (dict : List Entry) (s t : List ℕ) where
         right = ap (λ (k : ℕ). drop (at + k) t) st ∙ past_item y t _ at (et ∙ octets_cons y ys);
       }
 
-  pub passes_again : Four dict 0 277 → Four dict 10415 4203 → (xs ys : List Item) (at : ℕ) → All (Fit dict) xs → All (Fit dict) ys
+  pub passes_again : (xs ys : List Item) (at : ℕ) → All (Fit dictionary) xs → All (Fit dictionary) ys
       → map cell_in xs ≡ map cell_in ys
-      → drop at s ≡ octets_of xs → drop at t ≡ octets_of ys → Passes dict s at xs → Passes dict t at ys
-  passes_again state type [] [] at f g e es et p = tt
-  passes_again state type [] (y ∷ ys) at f g e es et p = let z : ◌≡◌ {A = ℕ} 0 1 = cc in absurd (omega arith)
-  passes_again state type (x ∷ xs) [] at f g e es et p = let z : ◌≡◌ {A = ℕ} 0 1 = cc in absurd (omega arith)
-  passes_again state type (x ∷ xs) (y ∷ ys) at f g e es et p =
+      → drop at s ≡ octets_of xs → drop at t ≡ octets_of ys → Passes dictionary s at xs → Passes dictionary t at ys
+  passes_again [] [] at f g e es et p = tt
+  passes_again [] (y ∷ ys) at f g e es et p = let z : ◌≡◌ {A = ℕ} 0 1 = cc in absurd (omega arith)
+  passes_again (x ∷ xs) [] at f g e es et p = let z : ◌≡◌ {A = ℕ} 0 1 = cc in absurd (omega arith)
+  passes_again (x ∷ xs) (y ∷ ys) at f g e es et p =
       let b = behind x y xs ys at f.0 g.0 e es et in
-      let ih = passes_again state type xs ys (at + step x) f.1 g.1 b.cells b.left b.right p.1 in (
-        contents_again dict s t at x y f.0 b.cell _ _ (es ∙ octets_cons x xs) (et ∙ octets_cons y ys) p.0 state
-            type,
+      let ih = passes_again xs ys (at + step x) f.1 g.1 b.cells b.left b.right p.1 in (
+        contents_again s t at x y f.0 b.cell _ _ (es ∙ octets_cons x xs) (et ∙ octets_cons y ys) p.0,
         rw b.steps at ih,
       )
 
   -- the number of an AVP whose data is four octets
-  pub numbers_again : (vendor code : ℕ) → Four dict vendor code → named blank vendor code ≡ false
+  pub numbers_again : (vendor code : ℕ) → Four vendor code → named blank vendor code ≡ false
       → (xs ys : List Item) (at : ℕ)
-      → All (Fit dict) xs → All (Fit dict) ys → map cell_in xs ≡ map cell_in ys
-      → drop at s ≡ octets_of xs → drop at t ≡ octets_of ys → Passes dict s at xs
+      → All (Fit dictionary) xs → All (Fit dictionary) ys → map cell_in xs ≡ map cell_in ys
+      → drop at s ≡ octets_of xs → drop at t ≡ octets_of ys → Passes dictionary s at xs
       → (i : ℕ) → named (avp_in (avps_at at xs) i) vendor code ≡ true
       → number_at 4 s (avp_in (avps_at at xs) i).start ≡ number_at 4 t (avp_in (avps_at at xs) i).start
   numbers_again vendor code four other [] [] at f g e es et p i n = not_both _ (rw (avps_nil at) at n) other
@@ -119,7 +117,7 @@ module _ (dict : List Entry) (s t : List ℕ) where
   numbers_again vendor code four other (x ∷ xs) (y ∷ ys) at f g e es et p zero n =
       let c : x.cell ≡ y.cell = cc in
       rw (avps_cons at x xs)
-      (four_same dict s t at x y f.0 c _ _ (es ∙ octets_cons x xs) (et ∙ octets_cons y ys) p.0 vendor code four
+      (four_same s t at x y f.0 c _ _ (es ∙ octets_cons x xs) (et ∙ octets_cons y ys) p.0 vendor code four
       (rw (avps_cons at x xs) at n))
   numbers_again vendor code four other (x ∷ xs) (y ∷ ys) at f g e es et p (suc i) n =
       let b = behind x y xs ys at f.0 g.0 e es et in

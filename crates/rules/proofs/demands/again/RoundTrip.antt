@@ -14,12 +14,12 @@ use Rattle.rules.specs.declared.Record.{Record}
 use Rattle.rules.specs.declared.Outcome.TheVariants.{Pass}
 use Rattle.rules.specs.Octets.{AreOctets}
 use Rattle.rules.specs.Verdict.{refused, refuse_if}
-use Rattle.rules.specs.Header.{application, longest_command}
+use Rattle.rules.specs.Header.{longest_command}
 use Rattle.rules.specs.Avp.{end_of}
-use Rattle.rules.specs.Dictionary.{Entry}
+use Rattle.rules.specs.Dictionary.{Entry, dictionary}
 use Rattle.rules.specs.Walk.{most_avps}
 use Rattle.rules.specs.Search.{blank}
-use Rattle.rules.specs.Command.{chosen, command_outcome}
+use Rattle.rules.specs.Command.{command_outcome}
 use Rattle.rules.specs.Record.{record_of, reading, recorded}
 use Rattle.rules.specs.Meaning.{meaning_of, meaning_over, cell_of}
 use Rattle.rules.specs.Wire.{command_octets}
@@ -91,7 +91,7 @@ names_all dict (x ∷ xs) at f =
 -- ---- a command's own record, over its octets
 
 module _ (c : List ℕ) (oct : AreOctets c) (pass : command_outcome c ≡ Pass) where
-  read : AcceptedItems (chosen c) c
+  read : AcceptedItems c
   read = accepted_items c oct pass
 
   abbrev avps : List Avp
@@ -102,60 +102,43 @@ module _ (c : List ℕ) (oct : AreOctets c) (pass : command_outcome c ≡ Pass) 
 
   record_is : (reading c).«record» ≡ record_of c avps
   unfolding reading
-  record_is = rw pass (ap (record_of c) (avps_are (chosen c) c read))
+  record_is = rw pass (ap (record_of c) (avps_are c read))
 
   recorded_is : recorded (reading c).«record» ≡ avps
   recorded_is = ap recorded record_is ∙ recorded_all c avps few_avps
 
   means_all : meaning_over (record_of c avps) c ≡ meaning_of c
   unfolding record_of
-  means_all = rw (recorded_all c avps few_avps, avps_are (chosen c) c read)
+  means_all = rw (recorded_all c avps few_avps, avps_are c read)
 
   -- the returned record, over the command's octets, has the command's meaning
   pub record_means : meaning_over (reading c).«record» c ≡ meaning_of c
   record_means = ap (λ (r : Record). meaning_over r c) record_is ∙ means_all
 
-  -- so its application is the command's, and its groups are read by the dictionary that the command chose
-  application_of_lem : (record_of c avps).application ≡ application c
-  unfolding record_of
-  application_of_lem = refl
-
-  application_is : (reading c).«record».application ≡ application c
-  application_is = rw record_is application_of_lem
-
   draft_cells_lem : cells_of (own_draft c) ≡ map cell_in read.items
-  draft_cells_lem = rw application_is (ap (map (cell_of (chosen c).entries c)) (recorded_is ∙ sym (avps_are (chosen c) c read)))
-      ∙ cells_are (chosen c) c read
+  draft_cells_lem = ap (map (cell_of dictionary c)) (recorded_is ∙ sym (avps_are c read)) ∙ cells_are c read
 
   -- its numbers fit their places
   numbers_fit : ((record_of c avps).count ≤ 256)
-      × ((record_of c avps).command_code < 2 ^ 24) × ((record_of c avps).application < 2 ^ 32)
       × ((record_of c avps).hop_by_hop < 2 ^ 32) × ((record_of c avps).end_to_end < 2 ^ 32)
   unfolding record_of
   numbers_fit =
-      let enough = read.header.enough in (
-        few_avps,
-        number_at_below 3 c 5 oct (omega arith),
-        number_at_below 4 c 8 oct (omega arith),
-        number_at_below 4 c 12 oct (omega arith),
-        number_at_below 4 c 16 oct (omega arith),
-      )
+      let enough = read.header.enough in
+      (few_avps, number_at_below 4 c 12 oct (omega arith), number_at_below 4 c 16 oct (omega arith))
 
   draft_formed : WellFormed (own_draft c)
   draft_formed =
       record {
         room = rw record_is (room_all c avps few_avps);
         few = rw record_is numbers_fit.0;
-        code_small = rw record_is numbers_fit.1;
-        application_small = rw record_is numbers_fit.2;
-        hop_small = rw record_is numbers_fit.3;
-        end_small = rw record_is numbers_fit.4;
+        hop_small = rw record_is numbers_fit.1;
+        end_small = rw record_is numbers_fit.2;
         blank = rw record_is (blank_all c avps few_avps);
-        placed_all = rw (recorded_is, application_is)
-            (placed_all (chosen c).entries (length c) read.items 20 read.listed.fit (omega (arith, read.long)));
-        tree = rw (draft_cells_lem, application_is) read.listed.tree;
-        sizes = rw (draft_cells_lem, application_is) read.listed.sizes;
-        names = rw recorded_is (names_all (chosen c).entries read.items 20 read.listed.fit);
+        placed_all = rw recorded_is
+            (placed_all dictionary (length c) read.items 20 read.listed.fit (omega (arith, read.long)));
+        tree = rw draft_cells_lem read.listed.tree;
+        sizes = rw draft_cells_lem read.listed.sizes;
+        names = rw recorded_is (names_all dictionary read.items 20 read.listed.fit);
       }
 
   pub draft_octets_lem : draft_octets (own_draft c) ≡ command_octets (meaning_of c)

@@ -3,18 +3,18 @@ use mathlib.Core.Path.{◌≡◌, sym, ap, ◌∙◌}
 use mathlib.Core.Bool.{Bool, cond}
 use mathlib.Core.List.{List, map}
 use mathlib.Core.Logic.{◌↔◌}
-use Prim.Native.Nat.{ℕ, ◌+◌, ◌*◌, ◌/◌, ◌%◌, ◌≤◌, ◌<◌}
+use Prim.Native.Nat.{ℕ, ◌+◌, ◌*◌, ◌/◌, ◌%◌, ◌<◌}
 use native.Mathlib.Nat.{div-div-eq-div-mul}
 use native.Mathlib.Omega.{arith}
 use borrow.Author.Tests.{ltb-true, ltb-false, eqb-true, eqb-false, ne_eqb}
 use lib.Dec.{ltb, eqb}
 use lib.ListN.{length, get_or, length-map}
 use Rattle.rules.specs.declared.Outcome.TheVariants.{Pass}
-use Rattle.rules.specs.Octets.{AreOctets, number_at, flag}
-use Rattle.rules.specs.Header.{command_flags, application}
-use Rattle.rules.specs.Profile.{Profile}
+use Rattle.rules.specs.Octets.{AreOctets, flag}
+use Rattle.rules.specs.Header.{command_flags, hop_by_hop, end_to_end}
+use Rattle.rules.specs.Dictionary.{dictionary}
 use Rattle.rules.specs.Walk.{avps_of}
-use Rattle.rules.specs.Command.{chosen, walk_of, command_outcome}
+use Rattle.rules.specs.Command.{walk_of, command_outcome}
 use Rattle.rules.specs.Meaning.{Meaning, meaning_of}
 use Rattle.rules.specs.Agreement.{compared, Agree}
 use Rattle.rules.proofs.Walk.{by_cases}
@@ -61,106 +61,96 @@ module _ (f g : ℕ) where
 
 -- ---- the theorem
 
--- but for the flags octet, what is compared is the octet
-compared_octet : (a b : List ℕ) (i : ℕ) → (i ≡ 4 → ⊥) → compared a i ≡ compared b i → get_or a i 0 ≡ get_or b i 0
-compared_octet a b i other e = rw (ne_eqb i 4 other) at e
-
--- what agreement tells of the headers of two accepted commands, whatever their applications
-module _ (a b : List ℕ) (p q : Profile) (ka : AcceptedItems p a) (kb : AcceptedItems q b) (g : Agree a b) where
-  -- below 20 nothing is padding
-  header_compared : (i : ℕ) → i < 20 → compared a i ≡ compared b i
-  header_compared i h =
-      let la = ka.header.enough in
-      g.same i (omega arith) (rw (avps_are p a ka) (padding_below ka.items 20 i h))
-      (rw (avps_are q b kb) (padding_below kb.items 20 i h))
-
-  header_agrees : (i : ℕ) → i < 20 → (i ≡ 4 → ⊥) → get_or a i 0 ≡ get_or b i 0
-  header_agrees i h other = compared_octet a b i other (header_compared i h)
-
-  field_agrees : (w at : ℕ) → 4 < at → at + w ≤ 20 → number_at w a at ≡ number_at w b at
-  field_agrees w at h k =
+module _ (a b : List ℕ) (oa : AreOctets a) (ob : AreOctets b) (ka : AcceptedItems a) (kb : AcceptedItems b) where
+  -- the header's octets, of which the flags are the fifth
+  header_octet : meaning_of a ≡ meaning_of b → length a ≡ length b → (i : ℕ) → i < 20 → (i ≡ 4 → ⊥)
+      → get_or a i 0 ≡ get_or b i 0
+  header_octet e n i h other =
       let la = ka.header.enough in
       let lb = kb.header.enough in
-      number_same a b w at (omega arith) (omega arith) (λ i l m. header_agrees i (omega arith) (λ q. omega arith))
+      by_cases (ltb i 1)
+      (λ k.
+      let z : i ≡ 0 = omega (arith, ltb-true i 1 k) in
+      rw z (ka.header.version_is ∙ sym kb.header.version_is))
+      (λ k1. by_cases (ltb i 4)
+      (λ k. octet_same a b 3 1 (omega arith) (omega arith) oa ob (ka.header.field_is ∙ n ∙ sym kb.header.field_is)
+      i (ltb-false i 1 k1) (ltb-true i 4 k))
+      (λ k4. by_cases (ltb i 8)
+      (λ k. octet_same a b 3 5 (omega arith) (omega arith) oa ob (ka.header.code_is ∙ sym kb.header.code_is)
+      i (omega (arith, ltb-false i 4 k4)) (ltb-true i 8 k))
+      (λ k8. by_cases (ltb i 12)
+      (λ k. octet_same a b 4 8 (omega arith) (omega arith) oa ob
+      (ka.header.application_is ∙ sym kb.header.application_is)
+      i (ltb-false i 8 k8) (ltb-true i 12 k))
+      (λ k12. by_cases (ltb i 16)
+      (λ k. octet_same a b 4 12 (omega arith) (omega arith) oa ob (ap (λ (m : Meaning). m.hop_by_hop) e)
+      i (ltb-false i 12 k12) (ltb-true i 16 k))
+      (λ k16. octet_same a b 4 16 (omega arith) (omega arith) oa ob (ap (λ (m : Meaning). m.end_to_end) e)
+      i (ltb-false i 16 k16) h)))))
 
-module _ (a b : List ℕ) (oa : AreOctets a) (ob : AreOctets b) (p : Profile) (ka : AcceptedItems p a) (kb : AcceptedItems p b)
-  where
-    -- the header's octets, of which the flags are the fifth
-    header_octet : meaning_of a ≡ meaning_of b → length a ≡ length b → (i : ℕ) → i < 20 → (i ≡ 4 → ⊥)
-        → get_or a i 0 ≡ get_or b i 0
-    header_octet e n i h other =
-        let la = ka.header.enough in
-        let lb = kb.header.enough in
-        by_cases (ltb i 1)
-        (λ k.
-        let z : i ≡ 0 = omega (arith, ltb-true i 1 k) in
-        rw z (ka.header.version_is ∙ sym kb.header.version_is))
-        (λ k1. by_cases (ltb i 4)
-        (λ k. octet_same a b 3 1 (omega arith) (omega arith) oa ob (ka.header.field_is ∙ n ∙ sym kb.header.field_is)
-        i (ltb-false i 1 k1) (ltb-true i 4 k))
-        (λ k4. by_cases (ltb i 8)
-        (λ k. octet_same a b 3 5 (omega arith) (omega arith) oa ob (ap (λ (m : Meaning). m.code) e)
-        i (omega (arith, ltb-false i 4 k4)) (ltb-true i 8 k))
-        (λ k8. by_cases (ltb i 12)
-        (λ k. octet_same a b 4 8 (omega arith) (omega arith) oa ob (ap (λ (m : Meaning). m.application) e)
-        i (ltb-false i 8 k8) (ltb-true i 12 k))
-        (λ k12. by_cases (ltb i 16)
-        (λ k. octet_same a b 4 12 (omega arith) (omega arith) oa ob (ap (λ (m : Meaning). m.hop_by_hop) e)
-        i (ltb-false i 12 k12) (ltb-true i 16 k))
-        (λ k16. octet_same a b 4 16 (omega arith) (omega arith) oa ob (ap (λ (m : Meaning). m.end_to_end) e)
-        i (ltb-false i 16 k16) h)))))
+  -- R, P, E, T, which are what is compared of the flags octet
+  flags_same : meaning_of a ≡ meaning_of b → compared a 4 ≡ compared b 4
+  flags_same e =
+      let u = upper_same (command_flags a) (command_flags b) (oa 4) (ob 4) (ap (λ (m : Meaning). m.r) e)
+      (ap (λ (m : Meaning). m.p) e) (ap (λ (m : Meaning). m.e) e) (ap (λ (m : Meaning). m.t) e) in
+      omega arith
 
-    -- R, P, E, T, which are what is compared of the flags octet
-    flags_same : meaning_of a ≡ meaning_of b → compared a 4 ≡ compared b 4
-    flags_same e =
-        let u = upper_same (command_flags a) (command_flags b) (oa 4) (ob 4) (ap (λ (m : Meaning). m.r) e)
-        (ap (λ (m : Meaning). m.p) e) (ap (λ (m : Meaning). m.e) e) (ap (λ (m : Meaning). m.t) e) in
-        omega arith
+  means_agree : meaning_of a ≡ meaning_of b → Agree a b
+  means_agree e =
+      let xs = ka.items in
+      let ys = kb.items in
+      let f = ka.listed in
+      let g = kb.listed in
+      let c : map cell_in xs ≡ map cell_in ys =
+      sym (cells_are a ka) ∙ ap (λ (m : Meaning). m.cells) e ∙ cells_are b kb in
+      let tx = tights dictionary xs f.sizes in
+      let l : length (octets_of xs) ≡ length (octets_of ys) =
+      size_octets dictionary xs f.fit tx ∙ ap (size_of dictionary) c
+      ∙ sym (size_octets dictionary ys g.fit (tights dictionary ys g.sizes)) in
+      let n : length a ≡ length b = omega (arith, ka.long, kb.long) in
+      record {
+        long = n;
+        same = λ i h1 h2 h3. by_cases (eqb i 4)
+            (λ k. rw (eqb-true i 4 k) (flags_same e))
+            (λ k. rw k (by_cases (ltb i 20)
+            (λ h. header_octet e n i (ltb-true i 20 h) (eqb-false i 4 k))
+            (λ h. same_octets dictionary xs ys a b 20 i f.fit g.fit tx c ka.tail kb.tail (ltb-false i 20 h)
+            (rw (avps_are a ka) at h2))));
+      }
 
-    means_agree : meaning_of a ≡ meaning_of b → Agree a b
-    means_agree e =
-        let xs = ka.items in
-        let ys = kb.items in
-        let f = ka.listed in
-        let g = kb.listed in
-        let c : map cell_in xs ≡ map cell_in ys =
-        sym (cells_are p a ka) ∙ ap (λ (m : Meaning). m.cells) e ∙ cells_are p b kb in
-        let tx = tights p.entries xs f.sizes in
-        let l : length (octets_of xs) ≡ length (octets_of ys) =
-        size_octets p.entries xs f.fit tx ∙ ap (size_of p.entries) c
-        ∙ sym (size_octets p.entries ys g.fit (tights p.entries ys g.sizes)) in
-        let n : length a ≡ length b = omega (arith, ka.long, kb.long) in
-        record {
-          long = n;
-          same = λ i h1 h2 h3. by_cases (eqb i 4)
-              (λ k. rw (eqb-true i 4 k) (flags_same e))
-              (λ k. rw k (by_cases (ltb i 20)
-              (λ h. header_octet e n i (ltb-true i 20 h) (eqb-false i 4 k))
-              (λ h. same_octets p.entries xs ys a b 20 i f.fit g.fit tx c ka.tail kb.tail (ltb-false i 20 h)
-              (rw (avps_are p a ka) at h2))));
-        }
+  -- elsewhere the octet
+  compared_octet : (i : ℕ) → (i ≡ 4 → ⊥) → compared a i ≡ compared b i → get_or a i 0 ≡ get_or b i 0
+  compared_octet i other e = rw (ne_eqb i 4 other) at e
 
-    agree_means : Agree a b → meaning_of a ≡ meaning_of b
-    agree_means g =
-        let xs = ka.items in
-        let ys = kb.items in
-        let like : Alike p.entries a b 20 xs ys =
-        λ i h1 h2 h3 h4. compared_octet a b i (λ q. omega arith)
-        (g.same i (omega (arith, ka.long)) (rw (avps_are p a ka) h3) (rw (avps_are p b kb) h4)) in
-        let c : map cell_in xs ≡ map cell_in ys =
-        same_cells p.entries 1 xs ys ka.listed kb.listed
-        (same_flats p.entries xs ys a b 20 ka.listed.fit kb.listed.fit (tights p.entries xs ka.listed.sizes)
-        (tights p.entries ys kb.listed.sizes) ka.tail kb.tail
-        (omega (arith, ka.long, kb.long, g.long)) like) in
-        let count : length (avps_of (walk_of a)) ≡ length (avps_of (walk_of b)) =
-        count_is p a ka ∙ sym (length-map xs cell_in) ∙ ap length c ∙ length-map ys cell_in ∙ sym (count_is p b kb) in
-        let field = field_agrees a b p p ka kb g in
-        let upper : command_flags a / 16 ≡ command_flags b / 16 = omega (arith, header_compared a b p p ka kb g 4 (omega arith)) in
-        let u : (k : ℕ) → flag (16 * k) (command_flags a) ≡ flag (16 * k) (command_flags b) =
-        λ k. same_upper (command_flags a) (command_flags b) k upper in
-        same_fields (meaning_of a) (meaning_of b) (u 8) (u 4) (u 2) (u 1) (field 3 5 (omega arith) (omega arith))
-        (field 4 8 (omega arith) (omega arith)) (field 4 12 (omega arith) (omega arith)) (field 4 16 (omega arith) (omega arith))
-        count (cells_are p a ka ∙ c ∙ sym (cells_are p b kb))
+  agree_means : Agree a b → meaning_of a ≡ meaning_of b
+  agree_means g =
+      let xs = ka.items in
+      let ys = kb.items in
+      let la = ka.header.enough in
+      let lb = kb.header.enough in
+      let first : (i : ℕ) → i < 20 → compared a i ≡ compared b i =
+      λ i h. g.same i (omega arith) (rw (avps_are a ka) (padding_below xs 20 i h))
+      (rw (avps_are b kb) (padding_below ys 20 i h)) in
+      let head : (i : ℕ) → i < 20 → (i ≡ 4 → ⊥) → get_or a i 0 ≡ get_or b i 0 =
+      λ i h other. compared_octet i other (first i h) in
+      let like : Alike dictionary a b 20 xs ys =
+      λ i h1 h2 h3 h4. compared_octet i (λ q. omega arith)
+      (g.same i (omega (arith, ka.long)) (rw (avps_are a ka) h3) (rw (avps_are b kb) h4)) in
+      let c : map cell_in xs ≡ map cell_in ys =
+      same_cells dictionary 1 xs ys ka.listed kb.listed
+      (same_flats dictionary xs ys a b 20 ka.listed.fit kb.listed.fit (tights dictionary xs ka.listed.sizes)
+      (tights dictionary ys kb.listed.sizes) ka.tail kb.tail
+      (omega (arith, ka.long, kb.long, g.long)) like) in
+      let count : length (avps_of (walk_of a)) ≡ length (avps_of (walk_of b)) =
+      count_is a ka ∙ sym (length-map xs cell_in) ∙ ap length c ∙ length-map ys cell_in ∙ sym (count_is b kb) in
+      let hop : hop_by_hop a ≡ hop_by_hop b =
+      number_same a b 4 12 (omega arith) (omega arith) (λ i h k. head i (omega arith) (λ q. omega arith)) in
+      let end : end_to_end a ≡ end_to_end b =
+      number_same a b 4 16 (omega arith) (omega arith) (λ i h k. head i (omega arith) (λ q. omega arith)) in
+      let upper : command_flags a / 16 ≡ command_flags b / 16 = omega (arith, first 4 (omega arith)) in
+      let u : (k : ℕ) → flag (16 * k) (command_flags a) ≡ flag (16 * k) (command_flags b) =
+      λ k. same_upper (command_flags a) (command_flags b) k upper in
+      same_fields (meaning_of a) (meaning_of b) (u 8) (u 4) (u 2) (u 1) hop end count (cells_are a ka ∙ c ∙ sym (cells_are b kb))
 
 -- demand 3, first half
 pub same_meaning : (a b : List ℕ) → AreOctets a → AreOctets b → command_outcome a ≡ Pass → command_outcome b ≡ Pass
@@ -168,10 +158,4 @@ pub same_meaning : (a b : List ℕ) → AreOctets a → AreOctets b → command_
 same_meaning a b oa ob pa pb =
     let ka = accepted_items a oa pa in
     let kb = accepted_items b ob pb in
-    -- commands of one application have one profile
-    let one : application a ≡ application b → AcceptedItems (chosen a) b = λ e. rw e kb in (
-      λ e. means_agree a b oa ob (chosen a) ka (one (ap (λ (m : Meaning). m.application) e)) e,
-      λ g.
-          let e = field_agrees a b (chosen a) (chosen b) ka kb g 4 8 (omega arith) (omega arith) in
-          agree_means a b oa ob (chosen a) ka (one e) g,
-    )
+    (means_agree a b oa ob ka kb, agree_means a b oa ob ka kb)

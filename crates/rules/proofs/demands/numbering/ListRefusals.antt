@@ -17,7 +17,7 @@ use Rattle.rules.specs.declared.Admission.{Admission}
 use Rattle.rules.specs.declared.Admission.TheVariants.{ByRow, NoRow}
 use Rattle.rules.specs.declared.Grammar.{Grammar}
 use Rattle.rules.specs.declared.ExchangeRules.{ExchangeRules}
-use Rattle.rules.specs.declared.ExchangeRules.TheVariants.{OfRequest, OfAnswer, WindowsAlone, NoRules}
+use Rattle.rules.specs.declared.ExchangeRules.TheVariants.{OfRequest, OfAnswer, WindowsAlone}
 use Rattle.rules.specs.declared.Found.{Found}
 use Rattle.rules.specs.declared.Found.TheVariants.{At, Nothing}
 use Rattle.rules.specs.Verdict.{or_else}
@@ -26,7 +26,7 @@ use Rattle.rules.specs.Dictionary.{Entry, defined, members_of}
 use Rattle.rules.specs.Rows.{Row, rows_of, admits_others}
 use Rattle.rules.specs.RowChecks.{admission, none_met, counted, by_mark, by_admission, member_outcome, missing_from, members_outcome, members_at, group_outcome, groups_outcome, list_outcome, rows_outcome}
 use Rattle.rules.specs.Search.{avp_in, positions, first, member}
-use Rattle.rules.specs.Exchange.{present, volume, not_beside, total_alone, first_request, later_request, request_by, request_outcome, result_by, result_outcome, policies_outcome, policy_in, policy_outcome, policies_at, each_policy, policy_number, answer_outcome, window_by, window_in, window_outcome, window_at, each_window, by_command, exchange_by, exchange_outcome, windows_by}
+use Rattle.rules.specs.Exchange.{present, volume, not_beside, total_alone, first_request, later_request, request_by, request_outcome, result_by, result_outcome, policies_outcome, policy_in, policy_outcome, policies_at, each_policy, policy_number, answer_outcome, window_by, window_in, window_outcome, window_at, each_window, by_command, exchange_by, exchange_outcome}
 use Rattle.rules.proofs.demands.numbering.Refusals.{meets, AvpRefusals, either, both, in_turn}
 
 -- the command's list, then each group
@@ -198,19 +198,10 @@ module _ (t : Verdict → Bool) (r : AvpRefusals t) where
   by_command_lem find OfAnswer xs s end number =
       answer_meets find xs end number (each_policy xs) (policies_at_meets xs (positions xs 10415 4207))
   by_command_lem find WindowsAlone xs s end number = refl
-  by_command_lem find NoRules xs s end number = refl
-
-  windows_by_lem : (rules : ExchangeRules) (o : Outcome) → meets t o ≡ true → meets t (windows_by rules o) ≡ true
-  unfolding meets
-  windows_by_lem OfRequest o h = h
-  windows_by_lem OfAnswer o h = h
-  windows_by_lem WindowsAlone o h = h
-  windows_by_lem NoRules o h = refl
 
   pub exchange_meets : (rules : ExchangeRules) (xs : List Avp) (s : List ℕ) (end : ℕ)
       → meets t (exchange_outcome rules xs s end) ≡ true
   unfolding exchange_by
   exchange_meets rules xs s end =
       in_turn t (by_command (first xs) rules xs s end (policy_number xs) (each_policy xs)) _
-      (by_command_lem (first xs) rules xs s end (policy_number xs))
-      (windows_by_lem rules (each_window xs s 0 xs) (each_window_meets xs s 0 xs))
+      (by_command_lem (first xs) rules xs s end (policy_number xs)) (each_window_meets xs s 0 xs)

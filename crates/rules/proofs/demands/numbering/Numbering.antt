@@ -14,9 +14,10 @@ use Rattle.rules.specs.declared.Verdict.{Verdict}
 use Rattle.rules.specs.declared.Outcome.{Outcome}
 use Rattle.rules.specs.declared.Outcome.TheVariants.{Pass, Refused}
 use Rattle.rules.specs.Verdict.{reader_numbers, writer_only_numbers, writer_numbers, is_among, verdict_of}
-use Rattle.rules.specs.Header.{longest_command}
+use Rattle.rules.specs.Header.{header_outcome, longest_command}
+use Rattle.rules.specs.Dictionary.{dictionary}
 use Rattle.rules.specs.Walk.{Walked, whole, stopped, stop_of}
-use Rattle.rules.specs.Command.{own_list, lists_outcome_by, walked_outcome_by, outcome_by, chosen, header_outcome, command_rules, walk_of, command_outcome, command_verdict}
+use Rattle.rules.specs.Command.{command_rules, own_list, walk_of, lists_outcome, walked_outcome, command_outcome, command_verdict}
 use Rattle.rules.specs.Draft.{Draft}
 use Rattle.rules.specs.Writer.{draft_octets, own_outcome, draft_outcome, writing}
 use Rattle.rules.specs.Order.{fits_table}
@@ -29,18 +30,18 @@ use Rattle.rules.proofs.demands.numbering.ListRefusals.{rows_meets, exchange_mee
 -- ---- a test that holds of each refusal of the reader holds of the one that a command gets
 
 module _ (s : List ℕ) (t : Verdict → Bool) (h : HeaderRefusals s t) (r : AvpRefusals t) where
-  lists_meet : (w : Walked) → meets t (stop_of w) ≡ true → meets t (walked_outcome_by (chosen s) s w) ≡ true
-  unfolding lists_outcome_by
+  lists_meet : (w : Walked) → meets t (stop_of w) ≡ true → meets t (walked_outcome s w) ≡ true
+  unfolding lists_outcome
   lists_meet (whole xs) e =
-      in_turn t _ _ (rows_meets t r (chosen s).entries (command_rules s).rows (length s) xs)
+      in_turn t _ _ (rows_meets t r dictionary (command_rules s).rows (length s) xs)
       (exchange_meets t r (command_rules s).exchange xs s (length s))
   lists_meet (stopped xs v) e = e
 
   pub command_meets : meets t (command_outcome s) ≡ true
-  unfolding command_outcome outcome_by header_outcome walk_of
+  unfolding command_outcome walk_of
   command_meets =
       in_turn t (header_outcome s) _ (header_meets s t h)
-      (lists_meet (walk_of s) (walk_meets t r (length s) (chosen s).entries s (own_list s)))
+      (lists_meet (walk_of s) (walk_meets t r (length s) dictionary s (own_list s)))
 
 -- ---- the reader's test: a number of the table, with its place, vendor and code; and 7001 is for longer commands
 
@@ -82,9 +83,9 @@ fits_told s Pass h = refl
 fits_told s (Refused v) h =
     (and_true (is_among reader_numbers v.number) (fits_table v) (and_true (is_among reader_numbers v.number && fits_table v) (only_long s v) h).0).1
 
-pub command_fits_lem : (s : List ℕ) → fits_table (command_verdict s) ≡ true
+pub command_fits : (s : List ℕ) → fits_table (command_verdict s) ≡ true
 unfolding command_verdict
-command_fits_lem s = fits_told s (command_outcome s) (command_readers s)
+command_fits s = fits_told s (command_outcome s) (command_readers s)
 
 -- 7001 is for commands longer than 16,384 alone
 long_told : (s : List ℕ) (o : Outcome) → meets (is_readers s) o ≡ true → (verdict_of o).number ≡ 7001

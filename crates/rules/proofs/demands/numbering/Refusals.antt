@@ -16,8 +16,7 @@ use Rattle.rules.specs.declared.Checked.{Checked}
 use Rattle.rules.specs.declared.Checked.TheVariants.{Fault, Plain, Group}
 use Rattle.rules.specs.declared.Definition.{Definition}
 use Rattle.rules.specs.Verdict.{verdict, or_else}
-use Rattle.rules.specs.Header.{header_size, version, length_field, longest_command, command_flags, length_outcome, application_outcome, flags_outcome, header_by}
-use Rattle.rules.specs.Command.{header_outcome}
+use Rattle.rules.specs.Header.{header_size, version, length_field, longest_command, command_flags, length_outcome, application_outcome, flags_outcome, header_outcome}
 use Rattle.rules.specs.Avp.{avp_at}
 use Rattle.rules.specs.Dictionary.{Entry, defined, is_group}
 use Rattle.rules.specs.Walk.{Standing, is_full, framing, contents, settled, checked, Walked, whole, stopped, stop_of, after, and_then, in_group, behind, entered, walk_avp, walk_list}
@@ -85,17 +84,17 @@ module _ (s : List ℕ) (t : Verdict → Bool) (r : HeaderRefusals s t) where
       simp (either t, both, r.few, r.version, h, k, long))
       (λ k. simp (either t, both, r.few, r.version, h, k)))
 
-  application_meets : (applications codes : List ℕ) → meets t (application_outcome applications codes s) ≡ true
+  application_meets : meets t (application_outcome s) ≡ true
   unfolding application_outcome meets
-  application_meets applications codes = simp (either t, both, r.application, r.code)
+  application_meets = simp (either t, both, r.application, r.code)
 
   flags_meets : (flags : ℕ) → meets t (flags_outcome flags) ≡ true
   unfolding flags_outcome meets
   flags_meets flags = simp (either t, both, r.bits)
 
   pub header_meets : meets t (header_outcome s) ≡ true
-  unfolding header_outcome header_by
-  header_meets = in_turn t _ _ length_meets (in_turn t _ _ (application_meets _ _) (flags_meets (command_flags s)))
+  unfolding header_outcome
+  header_meets = in_turn t _ _ length_meets (in_turn t _ _ application_meets (flags_meets (command_flags s)))
 
 -- ---- the walk
 

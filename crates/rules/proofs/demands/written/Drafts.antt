@@ -14,13 +14,13 @@ use Rattle.rules.specs.declared.Record.{Record}
 use Rattle.rules.specs.declared.Outcome.TheVariants.{Pass}
 use Rattle.rules.specs.Header.{longest_command}
 use Rattle.rules.specs.Avp.{header_of, end_of}
-use Rattle.rules.specs.Dictionary.{Entry}
+use Rattle.rules.specs.Dictionary.{Entry, dictionary}
 use Rattle.rules.specs.Walk.{most_avps}
 use Rattle.rules.specs.Command.{command_outcome}
 use Rattle.rules.specs.Record.{recorded}
 use Rattle.rules.specs.Meaning.{Cell, cell_of, meaning_of}
 use Rattle.rules.specs.Wire.{has_vendor, avp_octets, list_octets}
-use Rattle.rules.specs.Draft.{Draft, draft_dictionary, cells_of, draft_meaning, has_room, count_fits, unused_blank, is_placed, all_placed, is_tree, has_sizes, command_fits, identifiers_fit, name_fits, names_fit, fits_wire, is_well_formed}
+use Rattle.rules.specs.Draft.{Draft, cells_of, draft_meaning, has_room, count_fits, unused_blank, is_placed, all_placed, is_tree, has_sizes, identifiers_fit, name_fits, names_fit, fits_wire, is_well_formed}
 use Rattle.rules.specs.Writer.{draft_octets}
 use Rattle.rules.proofs.Octets.{padded_least}
 use Rattle.rules.proofs.Tests.{and_true}
@@ -119,44 +119,38 @@ pub record WellFormed (d : Draft) : Type 0 where
   pub room : length d.«record».avps ≡ most_avps
   pub few : d.«record».count ≤ most_avps
   pub blank : unused_blank d.«record» ≡ true
-  pub placed_all : all_placed (draft_dictionary d) (length d.octets) (recorded d.«record») ≡ true
-  pub tree : is_tree 1 (draft_dictionary d) (cells_of d) ≡ true
-  pub sizes : has_sizes_under (draft_dictionary d) (cells_of d) ≡ true
-  pub code_small : d.«record».command_code < 2 ^ 24
-  pub application_small : d.«record».application < 2 ^ 32
+  pub placed_all : all_placed dictionary (length d.octets) (recorded d.«record») ≡ true
+  pub tree : is_tree 1 dictionary (cells_of d) ≡ true
+  pub sizes : has_sizes_under dictionary (cells_of d) ≡ true
   pub hop_small : d.«record».hop_by_hop < 2 ^ 32
   pub end_small : d.«record».end_to_end < 2 ^ 32
   pub names : names_fit (recorded d.«record») ≡ true
 
 pub well_formed : (d : Draft) → is_well_formed d ≡ true → WellFormed d
-unfolding is_well_formed command_fits identifiers_fit
+unfolding is_well_formed identifiers_fit
 well_formed d h =
     let r = d.«record» in
     let room = has_room r in
     let few = count_fits r in
     let blank = unused_blank r in
-    let placed = all_placed (draft_dictionary d) (length d.octets) (recorded r) in
-    let tree = is_tree 1 (draft_dictionary d) (cells_of d) in
-    let sizes = has_sizes (draft_dictionary d) (cells_of d) in
+    let placed = all_placed dictionary (length d.octets) (recorded r) in
+    let tree = is_tree 1 dictionary (cells_of d) in
+    let sizes = has_sizes dictionary (cells_of d) in
     let f = and_true (room && few && blank && placed && tree && sizes) (fits_wire r) h in
     let e = and_true (room && few && blank && placed && tree) sizes f.0 in
     let c = and_true (room && few && blank && placed) tree e.0 in
     let b = and_true (room && few && blank) placed c.0 in
     let a = and_true (room && few) blank b.0 in
     let g = and_true room few a.0 in
-    let w = and_true (command_fits r && identifiers_fit r) (names_fit (recorded r)) f.1 in
-    let v = and_true (command_fits r) (identifiers_fit r) w.0 in
-    let k = and_true (ltb r.command_code (2 ^ 24)) (ltb r.application (2 ^ 32)) v.0 in
-    let i = and_true (ltb r.hop_by_hop (2 ^ 32)) (ltb r.end_to_end (2 ^ 32)) v.1 in
+    let w = and_true (identifiers_fit r) (names_fit (recorded r)) f.1 in
+    let i = and_true (ltb r.hop_by_hop (2 ^ 32)) (ltb r.end_to_end (2 ^ 32)) w.0 in
     record {
       room = eqb-true _ _ g.0;
       few = leb-true _ _ g.1;
       blank = a.1;
       placed_all = b.1;
       tree = c.1;
-      sizes = sym (sizes_same (draft_dictionary d) (cells_of d) 1 c.1) ∙ e.1;
-      code_small = ltb-true _ _ k.0;
-      application_small = ltb-true _ _ k.1;
+      sizes = sym (sizes_same dictionary (cells_of d) 1 c.1) ∙ e.1;
       hop_small = ltb-true _ _ i.0;
       end_small = ltb-true _ _ i.1;
       names = w.1;
@@ -164,7 +158,7 @@ well_formed d h =
 
 -- and the other way
 pub is_well_formed_lem : (d : Draft) → WellFormed d → is_well_formed d ≡ true
-unfolding is_well_formed command_fits identifiers_fit
+unfolding is_well_formed identifiers_fit
 is_well_formed_lem d w =
     simp (
       eq-eqb _ _ w.room,
@@ -172,10 +166,8 @@ is_well_formed_lem d w =
       w.blank,
       w.placed_all,
       w.tree,
-      sizes_same (draft_dictionary d) (cells_of d) 1 w.tree,
+      sizes_same dictionary (cells_of d) 1 w.tree,
       w.sizes,
-      lt-ltb _ _ w.code_small,
-      lt-ltb _ _ w.application_small,
       lt-ltb _ _ w.hop_small,
       lt-ltb _ _ w.end_small,
       w.names,
@@ -188,17 +180,17 @@ recorded_long r l h =
     ap (λ (k : ℕ). length (take k r.avps)) m ∙ length-take-le r.count r.avps (omega arith)
 
 module _ (d : Draft) (form : is_well_formed d ≡ true) (long : length (draft_octets d) ≤ longest_command) where
-  pub draft_listed : Listed (draft_dictionary d) 1 (map zeroed (cells_of d))
+  pub draft_listed : Listed dictionary 1 (map zeroed (cells_of d))
   draft_listed =
       let w = well_formed d form in
       let cs = cells_of d in
       let cz = cells_zeroed cs in
       let c = command_long (draft_meaning d) in
-      let o = placed_long (draft_dictionary d) d.octets (recorded d.«record») w.placed_all w.sizes in
+      let o = placed_long dictionary d.octets (recorded d.«record») w.placed_all w.sizes in
       record {
-        fit = fits_placed (draft_dictionary d) d.octets (recorded d.«record») w.placed_all w.names w.sizes
+        fit = fits_placed dictionary d.octets (recorded d.«record») w.placed_all w.names w.sizes
             (omega arith);
-        over = rw cz (tree_over (draft_dictionary d) cs 1 w.tree);
+        over = rw cz (tree_over dictionary cs 1 w.tree);
         tree = rw cz w.tree;
         sizes = rw cz w.sizes;
       }
@@ -208,13 +200,9 @@ module _ (d : Draft) (form : is_well_formed d ≡ true) (long : length (draft_oc
       let w = well_formed d form in
       let r = d.«record» in
       record {
-        small = record {
-          code_small = w.code_small;
-          application_small = w.application_small;
-          hop_small = w.hop_small;
-          end_small = w.end_small;
-        };
-        count_is = sym (length-map (recorded r) (cell_of (draft_dictionary d) d.octets) ∙ recorded_long r w.room w.few);
+        hop_small = w.hop_small;
+        end_small = w.end_small;
+        count_is = sym (length-map (recorded r) (cell_of dictionary d.octets) ∙ recorded_long r w.room w.few);
         listed = draft_listed;
         long = long;
       }

@@ -3,9 +3,9 @@ use borrow.Author.Rules.{rules}
 use mathlib.Core.Path.{◌≡◌, sym, ap, ◌∙◌}
 use Prim.Native.Nat.{min}
 use native.Mathlib.Omega.{arith}
-use Rattle.rules.specs.Dictionary.{find, is_group}
+use Rattle.rules.specs.Dictionary.{find, dictionary, is_group}
 use Rattle.rules.specs.Walk.{contents}
-use Rattle.dictionary.specs.Entries.{every_entry, definition_at}
+use Rattle.dictionary.specs.Entries.{definition_at}
 use Rattle.dictionary.specs.Table.{dictionary_by}
 use Rattle.dictionary.proofs.Table.{by_table}
 use Rattle.walk.specs.Promise.{number_by}
@@ -23,9 +23,9 @@ returns : tie.Need-returns
 returns c =
     let x = c.before in
     let a = x.before.before.args in
-    let d = definition_at every_entry x.entry-by.result in
+    let d = definition_at dictionary x.entry-by.result in
     let says : find (dictionary_by a.table.now) a.a.vendor a.a.code ≡ d =
-    by_table a.table.now a.a.vendor a.a.code ∙ ap (definition_at every_entry) (sym x.entry-by.ensures) in
+    by_table a.table.now a.a.vendor a.a.code ∙ ap (definition_at dictionary) (sym x.entry-by.ensures) in
     let octet : x.entry-by.result ≡ number_by a.table.now a.a.vendor a.a.code = omega (arith, x.entry-by) in
     c.judged.ensures
     ∙ rw says (checked_with_lem (number_by a.table.now) (contents a.s.now a.at a.a d) (is_group d) a.a _ octet)

@@ -3,7 +3,8 @@ use borrow.Author.Rules.{rules}
 use mathlib.Core.Path.{◌≡◌, sym, ◌∙◌}
 use lib.Dec.{leb}
 use Rattle.rules.specs.Walk.{deepest, too_deep}
-use Rattle.dictionary.specs.Entries.{every_entry, definition_at}
+use Rattle.rules.specs.Dictionary.{dictionary}
+use Rattle.dictionary.specs.Entries.{definition_at}
 use Rattle.walk.proofs.check.too_deep.Statement.{statement}
 use Rattle.walk.proofs.check.too_deep.Tie as tie
 
@@ -15,7 +16,7 @@ unfolding too_deep
 returns c =
     let g = c.before.before in
     let a = g.before.args in
-    let deep : leb deepest a.a.depth ≡ too_deep a.a (definition_at every_entry a.entry) = rw (sym g.is-group.ensures ∙ c.before.if1.true) in
+    let deep : leb deepest a.a.depth ≡ too_deep a.a (definition_at dictionary a.entry) = rw (sym g.is-group.ensures ∙ c.before.if1.true) in
     deep
 
 returns-2 : tie.Need-returns-2

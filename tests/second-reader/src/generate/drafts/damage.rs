@@ -3,7 +3,7 @@
 use super::lend::settle;
 use super::limits::push;
 use super::pick::{after, last_member, members, pick, some, some_group};
-use super::ways::{Flag, Spot, Way};
+use super::ways::{Field, Flag, Spot, Way};
 use crate::draft::{Draft, Place};
 use crate::generate::prng::Prng;
 use crate::record::MOST_AVPS;
@@ -16,7 +16,6 @@ pub fn one(draft: &mut Draft, octets: &mut Vec<u8>, prng: &mut Prng) -> Option<W
 
 fn apply(way: Way, draft: &mut Draft, octets: &mut Vec<u8>, prng: &mut Prng) -> Option<()> {
     let end = octets.len() as u32;
-    let names = draft.dictionary();
     match way {
         Way::Count257 => {
             if draft.count as usize != MOST_AVPS {
@@ -41,10 +40,10 @@ fn apply(way: Way, draft: &mut Draft, octets: &mut Vec<u8>, prng: &mut Prng) -> 
                 Spot::Last => MOST_AVPS - 1,
             };
             let place = draft.places.get_mut(at).filter(|_| at >= first)?;
-            *place.number_mut(field) = prng.pick(&[1, 1, 2, 256, 1 << 24, 1 << 31]);
+            *field_of(place, field) = prng.pick(&[1, 1, 2, 256, 1 << 24, 1 << 31]);
         }
         Way::PartByOne => {
-            let place = pick(draft, prng, |place| !place.is_group(names) && place.length > 0)?;
+            let place = pick(draft, prng, |place| !place.is_group() && place.length > 0)?;
             if prng.one_in(3) {
                 octets.truncate((place.start as usize + place.length as usize) - 1);
             } else {
@@ -52,7 +51,7 @@ fn apply(way: Way, draft: &mut Draft, octets: &mut Vec<u8>, prng: &mut Prng) -> 
             }
         }
         Way::PartByFar => {
-            let place = pick(draft, prng, |place| !place.is_group(names))?;
+            let place = pick(draft, prng, |place| !place.is_group())?;
             let back = 0u32.wrapping_sub(place.length);
             place.start = match prng.below(4) {
                 // The sum, cut to 32 bits, lies in the octets.
@@ -63,19 +62,19 @@ fn apply(way: Way, draft: &mut Draft, octets: &mut Vec<u8>, prng: &mut Prng) -> 
             };
         }
         Way::EmptyPartBehind => {
-            let place = pick(draft, prng, |place| !place.is_group(names) && place.length == 0)?;
+            let place = pick(draft, prng, |place| !place.is_group() && place.length == 0)?;
             place.start = prng.pick(&[end + 1, end + 1, end + 2, u32::MAX, 1 << 31]);
         }
         Way::FirstDepth0 => draft.used_mut().first_mut()?.depth = 0,
         Way::FirstDepth2 => draft.used_mut().first_mut()?.depth = prng.pick(&[2, 2, 3, 4]),
         Way::Depth0 => draft.used_mut().get_mut(1..).and_then(|later| some(later, prng, |_| true))?.depth = 0,
         Way::JumpByTwo => {
-            let at = after(draft, prng, |a, b| a.is_group(names) && a.depth < 3 && b.depth == a.depth + 1)?;
+            let at = after(draft, prng, |a, b| a.is_group() && a.depth < 3 && b.depth == a.depth + 1)?;
             draft.places[at].depth += 1;
             settled(draft, prng);
         }
         Way::DeeperAfterPlain => {
-            let at = after(draft, prng, |a, b| !a.is_group(names) && a.depth < 4 && b.depth <= a.depth)?;
+            let at = after(draft, prng, |a, b| !a.is_group() && a.depth < 4 && b.depth <= a.depth)?;
             draft.places[at].depth = draft.places[at - 1].depth + 1;
             settled(draft, prng);
         }
@@ -88,14 +87,14 @@ fn apply(way: Way, draft: &mut Draft, octets: &mut Vec<u8>, prng: &mut Prng) -> 
                     push(draft, Place { depth, code, m: 1, ..Place::default() });
                 }
             }
-            settle(draft);
+            settle(draft.used_mut());
         }
         Way::GroupShort => {
-            let group = pick(draft, prng, |place| place.is_group(names) && place.length > 0)?;
+            let group = pick(draft, prng, |place| place.is_group() && place.length > 0)?;
             group.length -= prng.pick(&[1, 4, group.length, group.length]).min(group.length);
         }
         Way::GroupLong => {
-            let group = pick(draft, prng, |place| place.is_group(names))?;
+            let group = pick(draft, prng, |place| place.is_group())?;
             let more = prng.pick(&[1, 3, 4, 8, 1 << 8, 1 << 16, 1 << 24, 1 << 31]);
             group.length = group.length.wrapping_add(more);
         }
@@ -106,8 +105,6 @@ fn apply(way: Way, draft: &mut Draft, octets: &mut Vec<u8>, prng: &mut Prng) -> 
             group.length = group.length.wrapping_sub(padding as u32);
         }
         Way::GroupStale => stale(draft, prng)?,
-        Way::CodeByOne => draft.command_code = 1 << 24,
-        Way::CodeBeyond => draft.command_code |= prng.pick(&[1 << 24, 1 << 25, 1 << 31, 0xFF << 24]),
         Way::Flag(flag) => {
             let flag = match flag {
                 Flag::R => &mut draft.r,
@@ -124,14 +121,25 @@ fn apply(way: Way, draft: &mut Draft, octets: &mut Vec<u8>, prng: &mut Prng) -> 
     Some(())
 }
 
+fn field_of(place: &mut Place, field: Field) -> &mut u32 {
+    match field {
+        Field::Depth => &mut place.depth,
+        Field::Vendor => &mut place.vendor,
+        Field::Code => &mut place.code,
+        Field::M => &mut place.m,
+        Field::P => &mut place.p,
+        Field::Start => &mut place.start,
+        Field::Length => &mut place.length,
+    }
+}
+
 /// Changes a group's members and not its length: a member is longer, gone, or no member any more.
 fn stale(draft: &mut Draft, prng: &mut Prng) -> Option<()> {
-    let names = draft.dictionary();
     let at = some_group(draft, prng, |_, _| true)?;
     let member = at + 1 + prng.below(members(draft, at));
     let place = &mut draft.places[member];
     match prng.below(3) {
-        0 if !place.is_group(names) => {
+        0 if !place.is_group() => {
             let shorter = prng.pick(&[4, 8, 1]).min(place.length);
             let padded = place.padded();
             place.length -= shorter;
@@ -158,6 +166,6 @@ fn stale(draft: &mut Draft, prng: &mut Prng) -> Option<()> {
 /// In half of the cases, gives groups lengths that fit the changed depths.
 fn settled(draft: &mut Draft, prng: &mut Prng) {
     if prng.one_in(2) {
-        settle(draft);
+        settle(draft.used_mut());
     }
 }

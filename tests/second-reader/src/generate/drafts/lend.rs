@@ -14,16 +14,14 @@ pub fn moved(draft: &Draft, octets: &[u8], prng: &mut Prng) -> (Draft, Vec<u8>) 
     };
     let mut draft = draft.clone();
     let data: Vec<Vec<u8>> = draft.used().iter().map(part).collect();
-    let octets = lend(&mut draft, &data, prng);
+    let octets = lend(draft.used_mut(), &data, prng);
     (draft, octets)
 }
 
 /// Octets that hold the data of each AVP that is no read group, and the starts set to it. Parts
 /// come in any order, overlap where their content allows it, and have other octets between them;
 /// empty parts stand anywhere, also at the very end. The starts of read groups are whatever.
-pub fn lend(draft: &mut Draft, data: &[Vec<u8>], prng: &mut Prng) -> Vec<u8> {
-    let dictionary = draft.dictionary();
-    let places = draft.used_mut();
+pub fn lend(places: &mut [Place], data: &[Vec<u8>], prng: &mut Prng) -> Vec<u8> {
     let mut octets = Vec::new();
     let mut order: Vec<usize> = (0..places.len()).collect();
     if !prng.one_in(3) {
@@ -31,7 +29,7 @@ pub fn lend(draft: &mut Draft, data: &[Vec<u8>], prng: &mut Prng) -> Vec<u8> {
     }
     let gaps = prng.one_in(2);
     for &at in &order {
-        if !places[at].is_group(dictionary) && places[at].length > 0 {
+        if !places[at].is_group() && places[at].length > 0 {
             if gaps && prng.one_in(3) {
                 let more = prng.below(5);
                 octets.extend(prng.octets(more));
@@ -46,7 +44,7 @@ pub fn lend(draft: &mut Draft, data: &[Vec<u8>], prng: &mut Prng) -> Vec<u8> {
     let end = octets.len() as u32;
     for place in places {
         let anywhere = prng.below(end as usize + 1) as u32;
-        if place.is_group(dictionary) {
+        if place.is_group() {
             place.start = prng.pick(&[0, place.start, anywhere, end + 1, u32::MAX]);
         } else if place.length == 0 {
             place.start = prng.pick(&[0, anywhere, end, end]);
@@ -72,11 +70,9 @@ fn put(data: &[u8], octets: &mut Vec<u8>, prng: &mut Prng) -> usize {
 }
 
 /// Gives each read group the length of its members with padding.
-pub fn settle(draft: &mut Draft) {
-    let dictionary = draft.dictionary();
-    let places = draft.used_mut();
+pub fn settle(places: &mut [Place]) {
     for at in (0..places.len()).rev() {
-        if places[at].is_group(dictionary) {
+        if places[at].is_group() {
             let members = avps(&places[at..]).next().map_or(&[][..], |(_, members)| members);
             let length: u64 = avps(members).map(|(member, _)| member.padded()).sum();
             places[at].length = length as u32;

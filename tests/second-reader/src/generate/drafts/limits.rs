@@ -9,7 +9,7 @@ use crate::writer::length;
 
 /// A Route-Record with M, which both commands' lists admit in any number.
 fn route_record(start: u32, length: u32) -> Place {
-    Place { depth: 1, code: 282, m: 1, start, length, ..Place::default() }
+    Place { depth: 1, vendor: 0, code: 282, m: 1, p: 0, start, length }
 }
 
 /// Adds empty Route-Records until 256 places, or nearly so many, are used.
@@ -28,7 +28,7 @@ pub fn deepen(draft: &mut Draft) {
         }
     }
     push(draft, Place { depth: 4, code: 284, m: 1, ..Place::default() });
-    settle(draft);
+    settle(draft.used_mut());
 }
 
 /// Makes the command just as long as it may be, just longer, or longer by far: so that an AVP's

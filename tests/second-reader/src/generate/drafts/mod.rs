@@ -1,7 +1,6 @@
 //! Drafts for the writer: records of accepted commands, the same over other octets, drafts built
 //! from nothing, and ones made malformed or too long; each with an output.
 
-mod applications;
 mod damage;
 mod lend;
 mod limits;
@@ -10,11 +9,10 @@ mod room;
 mod source;
 mod ways;
 
-pub use applications::{other_application, other_code};
 pub use lend::{lend, settle};
 pub use room::{output, room, Room};
 pub use source::Origin;
-pub use ways::{Flag, Spot, Way};
+pub use ways::{Field, Flag, Spot, Way};
 
 use super::prng::Prng;
 use crate::draft::Draft;
@@ -61,7 +59,6 @@ pub fn case(prng: &mut Prng) -> Case {
         }
         11 => limits::crowd(&mut draft, prng),
         12 if prng.one_in(6) => limits::deepen(&mut draft),
-        13 => applications::change(&mut draft, &octets, prng),
         _ => {}
     }
     let output = room::draft_output(&draft, prng);

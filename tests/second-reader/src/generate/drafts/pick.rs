@@ -16,10 +16,9 @@ pub fn last_member(draft: &Draft, at: usize) -> Option<&Place> {
 
 /// The position of a read group with a last member that is wanted.
 pub fn some_group(draft: &Draft, prng: &mut Prng, wanted: impl Fn(&Place, &Place) -> bool) -> Option<usize> {
-    let dictionary = draft.dictionary();
     let group = |&at: &usize| {
         let group = &draft.places[at];
-        group.is_group(dictionary) && last_member(draft, at).is_some_and(|last| wanted(group, last))
+        group.is_group() && last_member(draft, at).is_some_and(|last| wanted(group, last))
     };
     let groups: Vec<usize> = (0..draft.used().len()).filter(group).collect();
     groups.get(prng.below(groups.len())).copied()

@@ -1,14 +1,12 @@
 //! Where drafts come from.
 
 use super::lend::{lend, moved, settle};
-use crate::dictionary::{Dictionary, Form, Kind};
+use crate::dictionary::{Form, Kind};
 use crate::draft::{Draft, Place};
 use crate::generate::mutate;
-use crate::generate::nta::pair;
 use crate::generate::prng::Prng;
 use crate::generate::tree::{Body, Node, Tree};
 use crate::header::Command;
-use crate::layout::PLACE_NUMBERS;
 use crate::record::MOST_AVPS;
 
 /// Where a draft comes from.
@@ -75,14 +73,12 @@ fn record(prng: &mut Prng) -> (Draft, Vec<u8>) {
 /// A command's tree, in most cases changed, as a draft.
 fn built(prng: &mut Prng) -> (Draft, Vec<u8>) {
     let mut tree = crate::generate::sound(prng);
-    match prng.below(9) {
+    match prng.below(8) {
         0 => {}
-        1..=3 if tree.is_of_nta() => mutate::nta(&mut tree, prng),
         1 => mutate::volumes(&mut tree, prng),
         2 if tree.command() == Command::ErrorAnswer => mutate::error_answer(&mut tree, prng),
         2 => mutate::windows(&mut tree, prng),
-        3 => mutate::foreign(&mut tree, prng),
-        4..=7 => mutate::tree(&mut tree, prng),
+        3..=6 => mutate::tree(&mut tree, prng),
         _ => mutate::rules(&mut tree, prng),
     }
     of_tree(&tree, prng)
@@ -92,23 +88,23 @@ fn built(prng: &mut Prng) -> (Draft, Vec<u8>) {
 /// stray octets, reserved flags, V with vendor 0.
 fn of_tree(tree: &Tree, prng: &mut Prng) -> (Draft, Vec<u8>) {
     let mut avps = Vec::new();
-    gather(&tree.list, 1, tree.dictionary(), &mut avps);
+    gather(&tree.list, 1, &mut avps);
+    let count = avps.len() as u32;
+    avps.truncate(MOST_AVPS);
+    let (mut places, data): (Vec<Place>, Vec<Vec<u8>>) = avps.into_iter().unzip();
+    let octets = lend(&mut places, &data, prng);
     let bit = |bit: u32| u32::from(tree.flags) >> bit & 1;
     let mut draft = Draft { r: bit(7), p: bit(6), e: bit(5), t: bit(4), ..Draft::default() };
-    (draft.command_code, draft.application) = (tree.code, tree.application);
     (draft.hop_by_hop, draft.end_to_end) = (tree.hop_by_hop, tree.end_to_end);
-    draft.count = avps.len() as u32;
-    avps.truncate(MOST_AVPS);
-    let (places, data): (Vec<Place>, Vec<Vec<u8>>) = avps.into_iter().unzip();
+    draft.count = count;
     draft.places[..places.len()].copy_from_slice(&places);
-    let octets = lend(&mut draft, &data, prng);
-    settle(&mut draft);
+    settle(draft.used_mut());
     (draft, octets)
 }
 
 /// The AVPs of a list and of all below it, with their data. Members of what is no read group are
 /// its data, and the data of a read group are left out.
-fn gather(list: &[Node], depth: u32, names: Dictionary, avps: &mut Vec<(Place, Vec<u8>)>) {
+fn gather(list: &[Node], depth: u32, avps: &mut Vec<(Place, Vec<u8>)>) {
     for node in list {
         let mut place = Place {
             depth,
@@ -119,16 +115,16 @@ fn gather(list: &[Node], depth: u32, names: Dictionary, avps: &mut Vec<(Place, V
             ..Place::default()
         };
         match &node.body {
-            Body::Members(members) if place.is_group(names) => {
+            Body::Members(members) if place.is_group() => {
                 avps.push((place, Vec::new()));
-                gather(members, depth + 1, names, avps);
+                gather(members, depth + 1, avps);
             }
             Body::Members(members) => {
-                let data = Body::Members(members.clone()).octets();
+                let data = Tree::of(0, 0, 0, members.clone()).encode().split_off(20);
                 place.length = data.len() as u32;
                 avps.push((place, data));
             }
-            Body::Data(_) if place.is_group(names) => avps.push((place, Vec::new())),
+            Body::Data(_) if place.is_group() => avps.push((place, Vec::new())),
             Body::Data(data) => {
                 place.length = data.len() as u32;
                 avps.push((place, data.clone()));
@@ -144,7 +140,6 @@ fn random(prng: &mut Prng) -> (Draft, Vec<u8>) {
     let octets = prng.octets(room);
     let count = prng.pick(&[0, 1, 2, 3, 5, 8, 13, 40, 255, 256]);
     let mut draft = Draft { r: prng.below(2) as u32, count, ..Draft::default() };
-    (draft.application, draft.command_code) = pair(prng);
     draft.p = (!prng.one_in(12)).into();
     draft.e = prng.one_in(4).into();
     draft.t = prng.one_in(3).into();
@@ -173,10 +168,10 @@ fn random(prng: &mut Prng) -> (Draft, Vec<u8>) {
         if at == 0 && prng.one_in(2) {
             (place.vendor, place.code) = (0, Kind::SessionId.code());
         }
-        deepest = (place.depth as usize + usize::from(place.is_group(draft.dictionary()))).min(4);
+        deepest = (place.depth as usize + usize::from(place.is_group())).min(4);
         draft.places[at] = place;
     }
-    settle(&mut draft);
+    settle(draft.used_mut());
     (draft, octets)
 }
 
@@ -194,16 +189,12 @@ fn wild(prng: &mut Prng) -> (Draft, Vec<u8>) {
     for field in head {
         *field = prng.pick(&[0, 1, 1, 1, 2]);
     }
-    (draft.application, draft.command_code) = pair(prng);
-    if prng.one_in(4) {
-        draft.command_code = number(prng);
-    }
     (draft.hop_by_hop, draft.end_to_end) = (prng.word(), prng.word());
     draft.count = number(prng).min(prng.pick(&[3, 256, 257, u32::MAX]));
     let used = if prng.one_in(2) { draft.used().len() } else { MOST_AVPS };
     for place in &mut draft.places[..used] {
-        let any = Place::of([(); PLACE_NUMBERS].map(|()| number(prng)));
-        *place = Place { depth: any.depth % 6, m: any.m % 3, p: any.p % 3, ..any };
+        let mut n = || number(prng);
+        *place = Place { depth: n() % 6, vendor: n(), code: n(), m: n() % 3, p: n() % 3, start: n(), length: n() };
     }
     (draft, octets)
 }

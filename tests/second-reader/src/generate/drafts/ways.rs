@@ -1,6 +1,17 @@
 //! The ways in which a draft is malformed: 7006's conditions, each in its shapes.
 
-use crate::layout::Field;
+/// A field of a place.
+#[derive(Clone, Copy, Debug, PartialEq, Eq, PartialOrd, Ord)]
+#[allow(missing_docs)]
+pub enum Field {
+    Depth,
+    Vendor,
+    Code,
+    M,
+    P,
+    Start,
+    Length,
+}
 
 /// Which of the unused places.
 #[derive(Clone, Copy, Debug, PartialEq, Eq, PartialOrd, Ord)]
@@ -60,15 +71,12 @@ pub enum Way {
     GroupStale,
     /// A flag that is neither 0 nor 1.
     Flag(Flag),
-    /// The first command code that has no three octets.
-    CodeByOne,
-    /// A command code of which three octets alone would be the honest one.
-    CodeBeyond,
 }
 
 impl Way {
     /// Every way.
     pub fn all() -> Vec<Way> {
+        use Field::*;
         let mut ways = vec![
             Way::Count257,
             Way::CountHuge,
@@ -85,10 +93,8 @@ impl Way {
             Way::GroupLong,
             Way::GroupWithoutPadding,
             Way::GroupStale,
-            Way::CodeByOne,
-            Way::CodeBeyond,
         ];
-        for field in Field::ALL {
+        for field in [Depth, Vendor, Code, M, P, Start, Length] {
             ways.extend([Spot::First, Spot::Between, Spot::Last].map(|at| Way::Unused(field, at)));
         }
         let flags = [Flag::R, Flag::P, Flag::E, Flag::T, Flag::AvpM, Flag::AvpP];

@@ -2,9 +2,8 @@
 
 use super::{insert_refusals, own, Change};
 use crate::calls::{Call, Lent};
-use crate::dictionary::Dictionary;
 use crate::draft::{Draft, Place};
-use crate::generate::drafts::{accepted, is_accepted, lend, moved, other_application, other_code, settle};
+use crate::generate::drafts::{accepted, is_accepted, lend, moved, settle};
 use crate::generate::prng::Prng;
 use crate::header::LONGEST_COMMAND;
 use crate::meaning::{padding, Meaning};
@@ -72,12 +71,11 @@ fn meaning(call: &Call) -> Meaning {
 /// The draft with one thing changed that belongs to its meaning.
 fn draft_changed(change: Change, draft: &Draft, octets: &[u8], prng: &mut Prng) -> Option<(Draft, Vec<u8>)> {
     let (mut draft, mut octets) = (draft.clone(), octets.to_vec());
-    let names = draft.dictionary();
     let used = draft.used().len();
     let at = prng.below(used);
     match change {
         Change::DataOctet => {
-            let place = draft.used().get(at).filter(|place| !place.is_group(names) && place.length > 0)?;
+            let place = draft.used().get(at).filter(|place| !place.is_group() && place.length > 0)?;
             let octet = place.start as usize + prng.below(place.length as usize);
             octets[octet] ^= 1 << prng.below(8);
         }
@@ -89,47 +87,44 @@ fn draft_changed(change: Change, draft: &Draft, octets: &[u8], prng: &mut Prng) 
         Change::AvpFlag => draft.used_mut().get_mut(at)?.m ^= 1,
         Change::Identifier if prng.one_in(2) => draft.hop_by_hop ^= 1 << prng.below(32),
         Change::Identifier => draft.end_to_end ^= 1 << prng.below(32),
-        Change::Application => (draft.application, draft.command_code) = other_application(&draft, prng),
-        Change::Code => draft.command_code = other_code(&draft)?,
         Change::Name => {
             let vendor = prng.pick(&[0, 1, 10_415, u32::MAX]);
-            let place = draft.used_mut().get_mut(at).filter(|place| !place.is_group(names))?;
+            let place = draft.used_mut().get_mut(at).filter(|place| !place.is_group())?;
             match prng.below(3) {
                 0 if place.vendor != vendor => place.vendor = vendor,
                 _ => place.code ^= 1 << prng.below(32),
             }
-            if place.is_group(names) {
+            if place.is_group() {
                 return None;
             }
-            settle(&mut draft);
+            settle(draft.used_mut());
         }
         Change::Split => {
             let [one, two] = draft.used().get(at..at + 2)? else {
                 return None;
             };
-            if one.is_group(names) || two.is_group(names) || one.length == 0 {
+            if one.is_group() || two.is_group() || one.length == 0 {
                 return None;
             }
-            let mut data: Vec<Vec<u8>> = draft.used().iter().map(|place| part(place, names, &octets)).collect();
+            let mut data: Vec<Vec<u8>> = draft.used().iter().map(|place| part(place, &octets)).collect();
             let cut = prng.below(data[at].len());
             let mut tail = data[at].split_off(cut);
             tail.append(&mut data[at + 1]);
             data[at + 1] = tail;
             for (place, data) in draft.used_mut().iter_mut().zip(&data) {
-                if !place.is_group(names) {
+                if !place.is_group() {
                     place.length = data.len() as u32;
                 }
             }
-            octets = lend(&mut draft, &data, prng);
-            settle(&mut draft);
+            octets = lend(draft.used_mut(), &data, prng);
+            settle(draft.used_mut());
         }
         Change::AvpOrder => {
             let [one, two] = draft.used().get(at..at + 2)? else {
                 return None;
             };
-            let same =
-                part(one, names, &octets) == part(two, names, &octets) && Place { start: two.start, ..*one } == *two;
-            if one.is_group(names) || two.is_group(names) || one.depth != two.depth || same {
+            let same = part(one, &octets) == part(two, &octets) && Place { start: two.start, ..*one } == *two;
+            if one.is_group() || two.is_group() || one.depth != two.depth || same {
                 return None;
             }
             draft.places.swap(at, at + 1);
@@ -141,7 +136,7 @@ fn draft_changed(change: Change, draft: &Draft, octets: &[u8], prng: &mut Prng) 
                 return None;
             }
             draft.places[at].depth -= 1;
-            settle(&mut draft);
+            settle(draft.used_mut());
         }
         _ => return None,
     }
@@ -149,8 +144,8 @@ fn draft_changed(change: Change, draft: &Draft, octets: &[u8], prng: &mut Prng) 
 }
 
 /// The data of a place; none of a read group.
-fn part(place: &Place, names: Dictionary, octets: &[u8]) -> Vec<u8> {
-    if place.is_group(names) {
+fn part(place: &Place, octets: &[u8]) -> Vec<u8> {
+    if place.is_group() {
         return Vec::new();
     }
     octets[place.start as usize..][..place.length as usize].to_vec()

@@ -37,10 +37,6 @@ pub enum Change {
     AvpFlag,
     /// In one identifier.
     Identifier,
-    /// In the application, and with it in the code: no code is one of both.
-    Application,
-    /// In the code, within one application.
-    Code,
     /// In one vendor or code.
     Name,
     /// In where the data of one AVP end and those of the next start.
@@ -60,15 +56,13 @@ impl Change {
     pub const KEEPING: [Change; 5] =
         [Change::Nothing, Change::Starts, Change::Source, Change::Refusals, Change::Lender];
     /// Changes after which they are not.
-    pub const TELLING: [Change; 14] = [
+    pub const TELLING: [Change; 12] = [
         Change::DataOctet,
         Change::Retransmitted,
         Change::Proxiable,
         Change::Error,
         Change::AvpFlag,
         Change::Identifier,
-        Change::Application,
-        Change::Code,
         Change::Name,
         Change::Split,
         Change::AvpOrder,

@@ -7,7 +7,7 @@ use crate::generate::drafts::accepted;
 use crate::generate::prng::Prng;
 
 /// What one command can differ in from another; of these only nothing keeps the meaning.
-pub const CHANGES: [Change; 13] = [
+pub const CHANGES: [Change; 11] = [
     Change::Nothing,
     Change::DataOctet,
     Change::Retransmitted,
@@ -15,8 +15,6 @@ pub const CHANGES: [Change; 13] = [
     Change::Error,
     Change::AvpFlag,
     Change::Identifier,
-    Change::Application,
-    Change::Code,
     Change::Name,
     Change::Split,
     Change::AvpOrder,

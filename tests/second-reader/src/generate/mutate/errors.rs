@@ -29,7 +29,7 @@ pub fn error_answer(tree: &mut Tree, prng: &mut Prng) {
         0 => tree.flags |= 0x80,
         1 => tree.flags = prng.pick(&[0x00, 0x10, 0x40, 0x50, 0x80, 0xC0]),
         2..=4 => drop_rows(tree, prng),
-        5..=7 => exceed(tree, prng.pick(&SINGLE), prng),
+        5..=7 => exceed(tree, prng),
         8..=9 => late_session(tree, prng),
         10 => result(tree, prng),
         11..=13 => group_row(tree, prng),
@@ -52,7 +52,8 @@ fn drop_rows(tree: &mut Tree, prng: &mut Prng) {
 }
 
 /// A second AVP of a row that stands at most once; 263 first, where it is that row.
-pub fn exceed(tree: &mut Tree, kind: Kind, prng: &mut Prng) {
+fn exceed(tree: &mut Tree, prng: &mut Prng) {
+    let kind = prng.pick(&SINGLE);
     if !tree.list.iter().any(|node| node.is(kind)) {
         let at = if kind == SessionId { 0 } else { behind_first(tree, prng) };
         tree.list.insert(at, sound::known(kind, 1, prng));
@@ -62,7 +63,7 @@ pub fn exceed(tree: &mut Tree, kind: Kind, prng: &mut Prng) {
 }
 
 /// A 263 that is not first; at times another one behind it, or 263s of vendors alone before it.
-pub fn late_session(tree: &mut Tree, prng: &mut Prng) {
+fn late_session(tree: &mut Tree, prng: &mut Prng) {
     tree.list.retain(|node| !node.is(SessionId));
     if prng.one_in(4) {
         tree.list.insert(0, sound::known(SessionId, 1, prng));
@@ -93,8 +94,8 @@ fn result(tree: &mut Tree, prng: &mut Prng) {
 }
 
 /// A group that lacks a row, exceeds one, or holds what it does not admit.
-pub fn group_row(tree: &mut Tree, prng: &mut Prng) {
-    let mut group = sound::known(prng.pick(tree.groups()), 2, prng);
+fn group_row(tree: &mut Tree, prng: &mut Prng) {
+    let mut group = sound::known(prng.pick(&sound::GROUPS), 2, prng);
     let closed = group.is(VendorSpecificApplicationId) || group.is(ExperimentalResult);
     if let Body::Members(list) = &mut group.body {
         let at = prng.below(list.len());
@@ -134,7 +135,7 @@ fn within<'a>(tree: &'a mut Tree, prng: &mut Prng) -> &'a mut Vec<Node> {
 }
 
 /// An unknown AVP, with M or without, anywhere that admits it.
-pub fn unknown(tree: &mut Tree, prng: &mut Prng) {
+fn unknown(tree: &mut Tree, prng: &mut Prng) {
     let mut node = sound::unknown(prng);
     if prng.one_in(2) {
         node.flags |= 0x40;
@@ -156,6 +157,6 @@ pub fn unknown(tree: &mut Tree, prng: &mut Prng) {
 }
 
 /// A position of the command's own list behind its first AVP.
-pub fn behind_first(tree: &Tree, prng: &mut Prng) -> usize {
+fn behind_first(tree: &Tree, prng: &mut Prng) -> usize {
     (1 + prng.below(tree.list.len())).min(tree.list.len())
 }

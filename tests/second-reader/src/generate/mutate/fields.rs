@@ -3,18 +3,17 @@
 use super::pick::{one, some_list, some_node};
 use crate::dictionary::{Form, Kind};
 use crate::generate::prng::Prng;
+use crate::generate::sound;
 use crate::generate::tree::{Body, Node, Tree};
-use crate::generate::{nta, sound};
 use Kind::*;
 
 pub fn header(tree: &mut Tree, prng: &mut Prng) {
-    match prng.below(9) {
+    match prng.below(6) {
         0 => tree.version = prng.pick(&[0, 2, 255]),
         1 => tree.application ^= 1 << prng.below(32),
         2 => tree.code = (tree.code ^ 1 << prng.below(24)) & 0xFF_FFFF,
         3 => tree.flags ^= 0x40,
         4 => tree.flags ^= 0x20,
-        5..=7 => (tree.application, tree.code) = nta::pair(prng),
         _ => tree.flags = prng.octet(),
     }
     if prng.one_in(4) {
@@ -25,7 +24,7 @@ pub fn header(tree: &mut Tree, prng: &mut Prng) {
 pub fn rename(tree: &mut Tree, prng: &mut Prng) {
     let change = prng.below(5);
     let (vendor, code) = (prng.pick(&[1, 10_414, 10_416, u32::MAX]), prng.word());
-    let kind = prng.pick(tree.kinds());
+    let kind = prng.pick(Kind::ALL);
     let Some(node) = some_node(tree, prng) else {
         return;
     };
@@ -78,9 +77,8 @@ pub fn length(tree: &mut Tree, prng: &mut Prng) {
 }
 
 pub fn width(tree: &mut Tree, prng: &mut Prng) {
-    let dictionary = tree.dictionary();
     let fixed = |node: &Node| {
-        let kind = dictionary.kind(node.vendor.unwrap_or(0), node.code);
+        let kind = Kind::of(node.vendor.unwrap_or(0), node.code);
         kind.is_some_and(|kind| matches!(kind.form(), Form::Four | Form::Eight))
     };
     one(tree, prng, fixed, |node, prng| {

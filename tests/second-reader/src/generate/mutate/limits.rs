@@ -16,7 +16,7 @@ pub fn nest(tree: &mut Tree, prng: &mut Prng) {
     let mut chain: Option<Node> = None;
     for _ in 0..1 + prng.below(4) {
         // Depth 3 keeps its own members plain.
-        let mut group = sound::known(prng.pick(tree.groups()), 3, prng);
+        let mut group = sound::known(prng.pick(&sound::GROUPS), 3, prng);
         if let Body::Members(members) = &mut group.body {
             if prng.one_in(6) {
                 members.clear();
@@ -74,7 +74,7 @@ fn crowd_group(tree: &mut Tree, goal: usize, prng: &mut Prng) {
 
 /// Stray octets at the end of a list.
 pub fn stray(tree: &mut Tree, prng: &mut Prng) {
-    let code = prng.pick(Kind::OF_BOTH).code();
+    let code = prng.pick(Kind::ALL).code();
     let mut octets = code.to_be_bytes().to_vec();
     octets.push(prng.pick(&[0x40, 0x00, 0x80, 0xC0, 0xE0, 0xFF]));
     octets.extend_from_slice(&[0, 0, prng.pick(&[0, 7, 8, 9, 11, 12, 13, 16])]);

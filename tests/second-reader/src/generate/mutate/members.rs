@@ -54,7 +54,7 @@ pub fn drop_kind(tree: &mut Tree, gone: Kind) {
 
 /// Drops about half of a group's members.
 pub fn thin(tree: &mut Tree, prng: &mut Prng) {
-    let kind = prng.pick(tree.groups());
+    let kind = prng.pick(&sound::GROUPS);
     if prng.one_in(2) {
         let node = sound::known(kind, 3, prng);
         tree.list.push(node);
@@ -106,7 +106,7 @@ pub fn intrude(tree: &mut Tree, prng: &mut Prng) {
         }
         node
     } else {
-        sound::known(prng.pick(tree.kinds()), 3, prng)
+        sound::known(prng.pick(Kind::ALL), 3, prng)
     };
     if prng.one_in(3) {
         let closed = |node: &Node| node.is(VendorSpecificApplicationId) || node.is(ExperimentalResult);

@@ -4,14 +4,12 @@ mod errors;
 mod fields;
 mod limits;
 mod members;
-mod nta;
 mod octets;
-pub mod pick;
+mod pick;
 mod windows;
 
 pub use errors::error_answer;
 pub use members::volumes;
-pub use nta::{foreign, nta};
 pub use octets::{fit, octets};
 pub use windows::windows;
 
@@ -21,15 +19,11 @@ use crate::header::Command;
 
 /// Changes the tree in one way.
 pub fn tree(tree: &mut Tree, prng: &mut Prng) {
-    if tree.is_of_nta() && prng.one_in(2) {
-        return nta(tree, prng);
-    }
     if tree.command() == Command::ErrorAnswer && prng.one_in(2) {
         return error_answer(tree, prng);
     }
-    match prng.below(50) {
-        0 | 45 => fields::header(tree, prng),
-        46..=48 => foreign(tree, prng),
+    match prng.below(46) {
+        0 => fields::header(tree, prng),
         1..=3 => members::drop_any(tree, prng),
         4..=6 => members::drop_ruled(tree, prng),
         7..=8 => members::double(tree, prng),
@@ -61,10 +55,6 @@ pub fn tree(tree: &mut Tree, prng: &mut Prng) {
 /// Breaks several rows or exchange rules, so that their order shows.
 pub fn rules(tree: &mut Tree, prng: &mut Prng) {
     for _ in 0..2 + prng.below(4) {
-        if tree.is_of_nta() && prng.one_in(2) {
-            nta(tree, prng);
-            continue;
-        }
         if tree.command() == Command::ErrorAnswer && prng.one_in(2) {
             error_answer(tree, prng);
             continue;
