@@ -1,4 +1,6 @@
 // An AVP of a walk: its name, its place, and refusals at it; and the blank AVP of an unused place.
+#![tactic(auto)]
+
 ghost use Rattle.std.specs.Prelude.{◌≡◌, ◌-◌};
 ghost use Rattle.rules.specs.Verdict.{refused, verdict_of, Answers};
 ghost use Rattle.rules.specs.Avp.{named, place_of};

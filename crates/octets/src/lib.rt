@@ -1,6 +1,8 @@
 // Big-endian numbers of 2, 3, 4 and 8 octets at a place of a slice, each by one law over the width. A number that does
 // not lie whole in the slice reads as 0, so each function that reads takes any place. And a flag of an octet, and the
 // length with padding.
+#![tactic(auto)]
+
 ghost use Rattle.std.specs.Prelude.{◌≡◌, ◌≤◌};
 ghost use Rattle.rules.specs.Octets.{number_at, IsNumber, flag, padded, IsPadded};
 

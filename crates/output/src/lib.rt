@@ -1,6 +1,8 @@
 // Octets put into a lent output from a place on: numbers of 3 and 4 octets, big-endian, by one law over the width;
 // octets as they stand, and zeros. What has no room there leaves the output as it was, so each function takes any
 // place.
+#![tactic(auto)]
+
 ghost use Rattle.std.specs.Prelude.{◌≡◌, replicate};
 ghost use Rattle.rules.specs.Octets.{octets};
 ghost use Rattle.output.specs.Output.{put_at};

@@ -1,5 +1,6 @@
 // The terms of document 01 as types: what a command is read into, and what comes back. No function stands here; the
 // rules are in specs/, in the order of document 01, and the laws that the proofs above cite in proofs/.
+#![tactic(auto)]
 
 pub mod flags;
 pub mod limits;
@@ -7,7 +8,7 @@ pub mod limits;
 // What comes back for a command (01, What comes back): the number, 0 where it is accepted, the place, and the Vendor-Id
 // and code of the AVP at fault.
 #[repr(C)]
-#[derive(Drop)]
+#[derive(Clone, Copy)]
 pub struct Verdict {
     pub number: u32,
     pub place: u32,
@@ -16,14 +17,14 @@ pub struct Verdict {
 }
 
 // What some of the checks say of a command.
-#[derive(Drop)]
+#[derive(Clone, Copy)]
 pub enum Outcome {
     Pass,
     Refused(Verdict),
 }
 
 // An AVP of the record: depth (1 in the command's own list), name, the flags M and P, and its data.
-#[derive(Drop)]
+#[derive(Clone, Copy)]
 pub struct Avp {
     pub depth: u32,
     pub vendor: u32,
@@ -56,14 +57,14 @@ pub struct Reading {
 
 // What writing a draft gives: the verdict, and how many octets were written, none with a refusal.
 #[repr(C)]
-#[derive(Drop)]
+#[derive(Clone, Copy)]
 pub struct Written {
     pub verdict: Verdict,
     pub length: u32,
 }
 
 // What a search finds: a position of the record, or none.
-#[derive(Drop)]
+#[derive(Clone, Copy)]
 pub enum Found {
     At(usize),
     Nothing,
@@ -71,14 +72,14 @@ pub enum Found {
 
 // The answer of a search for the nth AVP at depth 1 with a vendor and code (02, [9]): what it finds, and how many of
 // them there are, which is told with none too.
-#[derive(Drop)]
+#[derive(Clone, Copy)]
 pub struct Sought {
     pub found: Found,
     pub number: usize,
 }
 
 // The lists that have rows: the request, the answer, each grouped AVP that is read, and the answer with E (02, [1]).
-#[derive(Drop)]
+#[derive(Clone, Copy)]
 pub enum Grammar {
     Request,
     Answer,
@@ -93,7 +94,7 @@ pub enum Grammar {
 
 // The exchange rules that apply to a command: those of a request or of an answer, each with the window rule; or the
 // window rule alone (02, [1]).
-#[derive(Drop)]
+#[derive(Clone, Copy)]
 pub enum ExchangeRules {
     OfRequest,
     OfAnswer,
@@ -101,14 +102,14 @@ pub enum ExchangeRules {
 }
 
 // What a command is judged by, chosen from its header: the rows of its own list, and the exchange rules.
-#[derive(Drop)]
+#[derive(Clone, Copy)]
 pub struct CommandRules {
     pub rows: Grammar,
     pub exchange: ExchangeRules,
 }
 
 // The form of an AVP's data: of any length, of a fixed width, or a list of AVPs that is read.
-#[derive(Drop)]
+#[derive(Clone, Copy)]
 pub enum Form {
     Any,
     Fixed(u32),
@@ -117,14 +118,14 @@ pub enum Form {
 
 // What the dictionary says of a name: whether M must be set, and the form of the data. The rules are defined by it; the
 // code asks the facts one by one, by the number of an entry.
-#[derive(Drop)]
+#[derive(Clone, Copy)]
 pub enum Definition {
     Known { m: bool, form: Form },
     Unknown,
 }
 
 // What a group's members go by: the rows of a list, or nothing, where the data is not read as a list.
-#[derive(Drop)]
+#[derive(Clone, Copy)]
 pub enum Members {
     Under(Grammar),
     NoMembers,
@@ -132,7 +133,7 @@ pub enum Members {
 
 // The mark of a row: ! first and once, 1 once, ? at most once, * any number; and that of request [1], at most once and
 // first if present.
-#[derive(Drop)]
+#[derive(Clone, Copy)]
 pub enum Mark {
     First,
     FirstIfPresent,
@@ -142,14 +143,14 @@ pub enum Mark {
 }
 
 // The row that admits a name in a list: its position among the rows and its mark, or none.
-#[derive(Drop)]
+#[derive(Clone, Copy)]
 pub enum Admission {
     ByRow { row: usize, mark: Mark },
     NoRow,
 }
 
 // What the walk's checks say of an AVP: the fault, an AVP that holds no list, or a group whose data is read as a list.
-#[derive(Drop)]
+#[derive(Clone, Copy)]
 pub enum Checked {
     Fault(Verdict),
     Plain(Avp),

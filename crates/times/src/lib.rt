@@ -1,4 +1,6 @@
 // Time values (request [5]): their order across 7 February 2036, and the number of seconds from one to another.
+#![tactic(auto)]
+
 ghost use Rattle.std.specs.Prelude.{◌≡◌};
 ghost use Rattle.rules.specs.Times.{moment, is_before, seconds};
 

@@ -1,5 +1,7 @@
 // The log that a walk is written into: nine numbers for each AVP in an array that the caller lends. The walk, the rows
 // and the exchange rules work on it, so that no record is copied from one AVP to the next.
+#![tactic(auto)]
+
 ghost use Rattle.std.specs.Prelude.{◌≡◌, ◌-◌, min, length};
 ghost use Rattle.rules.specs.Avp.{end_of};
 ghost use Rattle.rules.specs.Walk.{most_avps};

@@ -1,0 +1,19 @@
+-- `octets::number3` meets its contract, by the law over the width.
+use native.Mathlib.Omega.{arith}
+use Rattle.rules.proofs.Octets.{number_at_digits, no_number_lem}
+use Rattle.octets.proofs.number3.Goals as goal
+
+pub returns-then-s-lt3 : goal.returns-then-s-lt3
+returns-then-s-lt3 c =
+    let a = c.args in
+    no_number_lem 3 a.s.now a.at (omega arith)
+
+pub returns-then-s-at : goal.returns-then-s-at
+returns-then-s-at c =
+    let a = c.args in
+    no_number_lem 3 a.s.now a.at (omega arith)
+
+pub returns : goal.returns
+returns c =
+    let a = c.args in
+    record { is = omega (arith, number_at_digits 3 a.s.now a.at (omega arith)); below = omega arith }

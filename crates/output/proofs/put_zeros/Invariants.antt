@@ -1,0 +1,17 @@
+-- `output::put_zeros` meets its contract. With what is left at i put, the octets are those of the whole run.
+use mathlib.Core.Path.{◌≡◌, sym, ◌∙◌}
+use Prim.Native.Nat.{◌≤◌, ◌-◌}
+use native.Mathlib.Omega.{arith}
+use lib.ListN.{length, length-set, replicate, length-replicate}
+use lib.Seq.{sets}
+use Rattle.octets.proofs.Puts.{run_left, run_all, zeros_next, zeros_end}
+use Rattle.output.proofs.Output.{put_none, put_all}
+use Rattle.output.proofs.put_zeros.Given as goal
+
+abbrev pub invariant-loop-i : goal.invariant-loop-i
+invariant-loop-i l =
+    (l.i ≤ l.count) × ((length l.out ≡ length l.initial.out) × (run_left (replicate l.count 0) l.out l.at l.i ≡ sets l.initial.out l.at (replicate l.count 0)))
+
+abbrev pub decreases-loop-i : goal.decreases-loop-i
+decreases-loop-i l =
+    l.count - l.i
