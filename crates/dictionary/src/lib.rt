@@ -1,6 +1,8 @@
 // 01, Dictionary: the number of a name's entry, for plain codes through the constant table of request [6], for 3GPP's
 // through a table of nine numbers or by a `match`; and what an entry says. Each arm of a `match` stands for one kind,
 // by its constants.
+#![tactic(auto)]
+
 ghost use Rattle.std.specs.Prelude.{◌≡◌, cond, eqb, ◌≤◌, ◌<◌};
 ghost use Rattle.rules.specs.Header.{vendor_3gpp};
 ghost use Rattle.rules.specs.Verdict.{Answers};

@@ -2,9 +2,9 @@
 use Rattle.rules.specs.Dictionary.{dictionary}
 use Rattle.dictionary.specs.Entries.{number_where}
 use Rattle.dictionary.proofs.Table.{table_rule}
-use Rattle.dictionary.proofs.plain_table.Statement.{statement}
-use Rattle.dictionary.proofs.plain_table.Tie as tie
+use Rattle.dictionary.proofs.plain_table.Goals as goal
 
-pub plain-table-spec : {M : Type 1} → statement M
+pub returns : goal.returns
 unfolding dictionary number_where
-plain-table-spec = tie.close (tie.spec (λ c. table_rule _ tt))
+returns c =
+    table_rule _ tt

@@ -2,9 +2,9 @@
 use Rattle.rules.specs.Dictionary.{dictionary}
 use Rattle.dictionary.specs.Entries.{number_where}
 use Rattle.dictionary.proofs.Table.{nt_rule}
-use Rattle.dictionary.proofs.nt_table.Statement.{statement}
-use Rattle.dictionary.proofs.nt_table.Tie as tie
+use Rattle.dictionary.proofs.nt_table.Goals as goal
 
-pub nt-table-spec : {M : Type 1} → statement M
+pub returns : goal.returns
 unfolding dictionary number_where
-nt-table-spec = tie.close (tie.spec (λ c. nt_rule _ tt))
+returns c =
+    nt_rule _ tt
