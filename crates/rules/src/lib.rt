@@ -36,7 +36,7 @@ pub struct Avp {
 }
 
 // The record of a command: command flags, identifiers, and room for 256 AVPs, of which `count` are used.
-#[derive(Drop)]
+#[derive(Clone, Copy)]
 pub struct Record {
     pub r: bool,
     pub p: bool,
@@ -49,7 +49,7 @@ pub struct Record {
 }
 
 // What reading a command gives. With a refusal the record is the empty one.
-#[derive(Drop)]
+#[derive(Clone, Copy)]
 pub struct Reading {
     pub verdict: Verdict,
     pub record: Record,
