@@ -17,7 +17,7 @@ mod link;
 
 // A part of a slice, by its start and its length.
 #[repr(C)]
-#[derive(Drop)]
+#[derive(Clone, Copy)]
 pub struct Part {
     pub start: usize,
     pub length: usize,
@@ -25,7 +25,7 @@ pub struct Part {
 
 // The answer of a search: a position, 256 for none, and how many AVPs with the vendor and code there are at depth 1.
 #[repr(C)]
-#[derive(Drop)]
+#[derive(Clone, Copy)]
 pub struct SoughtNumbers {
     pub position: u32,
     pub number: u32,

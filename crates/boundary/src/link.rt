@@ -15,7 +15,7 @@ const REFUSAL: u32 = 2;
 
 // The answer to a fragment.
 #[repr(C)]
-#[derive(Drop)]
+#[derive(Clone, Copy)]
 pub struct LinkStep {
     pub taken: usize,
     pub progress: u32,

@@ -11,7 +11,7 @@ use rules::{Verdict, limits};
 // What is kept between two fragments: how many octets of a command the buffer holds from its start on, and whether the
 // run has stopped. Every number but 0 says that it has, so that each state that a caller makes up has a meaning.
 #[repr(C)]
-#[derive(Drop)]
+#[derive(Clone, Copy)]
 pub struct State {
     pub held: u32,
     pub stopped: u32,
@@ -19,7 +19,7 @@ pub struct State {
 
 // What the octets that were taken came to: no whole command yet; a whole one, with the reader's verdict on it; or a
 // refusal, of the call (7004, 7009) or of the run at the fourth octet (5015, 7001).
-#[derive(Drop)]
+#[derive(Clone, Copy)]
 pub enum Progress {
     Unfinished,
     Command(Verdict),
@@ -27,7 +27,7 @@ pub enum Progress {
 }
 
 // The answer to a fragment: how many of its octets were taken, what they came to, and the state to hand back.
-#[derive(Drop)]
+#[derive(Clone, Copy)]
 pub struct Step {
     pub taken: usize,
     pub progress: Progress,

@@ -13,7 +13,7 @@ mod record;
 
 // What judging a command gives: the outcome of its checks, and how many AVPs a whole walk met, 0 after a fault of
 // header or walk.
-#[derive(Drop)]
+#[derive(Clone, Copy)]
 pub struct Judgement {
     pub outcome: Outcome,
     pub count: usize,
