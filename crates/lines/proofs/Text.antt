@@ -1,6 +1,6 @@
 -- Laws of text: pieces that are put one behind the other, and a line put whole or not at all.
 use mathlib.Core.Path.{◌≡◌, refl, sym, ap, ◌∙◌}
-use mathlib.Core.Bool.{false}
+use mathlib.Core.Bool.{Bool, true, false}
 use mathlib.Core.List.{List, [], ◌∷◌, ◌++◌}
 use Prim.Native.Nat.{ℕ, suc, ◌+◌, ◌-◌, ◌≤◌, ◌<◌}
 use native.Mathlib.Nat.{add-zero}
@@ -58,6 +58,10 @@ room_left n at h =
     let m = n - line_room in
     by_cases (leb at m) (λ e. e ∙ sym (le-leb (at + line_room) n (omega (arith, leb-true at m e))))
     (λ e. e ∙ sym (lt-leb (at + line_room) n (omega (arith, leb-false at m e))))
+
+-- what the test says where it is met
+pub room_met : (at n : ℕ) {t : Bool} → t ≡ leb (at + line_room) n → t ≡ true → at + line_room ≤ n
+room_met at n e f = leb-true _ _ (sym e ∙ f)
 
 module _ {before : List ℕ} {at : ℕ} {line : List ℕ} where
   pub line_put : at + line_room ≤ length before → {r : ℕ} {after : List ℕ} {most : ℕ} → most ≤ line_room

@@ -1,6 +1,8 @@
 // The lines of a listing (01, The book and its listing), with ordinals, offsets and counts of 64 bits. A line is put
 // into octets that the caller lends, and what comes back is the place behind it. Without room for every line nothing
 // is put, so each public function takes any place.
+#![tactic(auto)]
+
 ghost use Rattle.std.specs.Prelude.{◌≡◌, [], ◌∷◌, ◌++◌, ◌+◌, ◌≤◌, ◌<◌, leb, length};
 ghost use Rattle.rules.specs.Lines.{decimal, spaced, newline, command_line, cut_line, stopped_line, end_line};
 ghost use Rattle.lines.specs.Promise.{LinePut, Put, PutWithin, line_room};
