@@ -1,5 +1,7 @@
 // A record as numbers in a lent array: written whole, also straight from a command and its log, and read place by
 // place, so that no record is made to write a command's numbers or to read one AVP.
+#![tactic(auto)]
+
 ghost use Rattle.std.specs.Prelude.{◌≡◌, [], ◌-◌, ◌≤◌, ◌<◌, min, length, replicate};
 ghost use Rattle.std.proofs.lemmas.List.Edits.{sets};
 ghost use Rattle.rules.specs.Header.{command_flags};
