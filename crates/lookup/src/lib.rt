@@ -1,5 +1,7 @@
 // 01, The record: what is looked up in a record, the data of a position and, with 02 [9], the nth AVP at depth 1 with a
 // vendor and code. A search goes over the record's numbers: a record is laid out as numbers first.
+#![tactic(auto)]
+
 ghost use Rattle.std.specs.Prelude.{◌≡◌, ◌+◌, ◌<◌, length};
 ghost use Rattle.rules.specs.Walk.{most_avps};
 ghost use Rattle.rules.specs.Search.{is_at};
