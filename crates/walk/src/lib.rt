@@ -1,5 +1,7 @@
 // 01, Order of checks, Walk: the AVPs of a command in walk order, written into a lent log, or the first fault. The list
 // walk and the AVP walk call each other; the depth that is left falls at each group.
+#![tactic(auto)]
+
 ghost use Rattle.rules.specs.Walk.{standing};
 ghost use Rattle.std.specs.Prelude.{◌≡◌};
 ghost use Rattle.dictionary.specs.Table.{dictionary_by};
@@ -14,7 +16,7 @@ mod frame;
 
 // What a walk gives: all was read, and so many AVPs stand in the log; or the fault at which it stopped, and how many
 // AVPs stand in the log by then.
-#[derive(Drop)]
+#[derive(Clone, Copy)]
 pub enum Walk {
     Whole(usize),
     Stopped { count: usize, verdict: Verdict },
