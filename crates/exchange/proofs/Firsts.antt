@@ -12,10 +12,10 @@ use borrow.Author.Tests.{lt-ltb, le-ltb, ltb-true, ltb-false}
 use Rattle.rules.specs.declared.Found.{Found}
 use Rattle.rules.specs.declared.Found.TheVariants.{At, Nothing}
 use Rattle.rules.specs.Walk.{most_avps}
-use Rattle.rules.specs.Dictionary.{Entry, dictionary}
+use Rattle.rules.specs.Dictionary.{dictionary}
 use Rattle.rules.proofs.Names.{both_hold}
 use Rattle.dictionary.proofs.Entries.{said_behind}
-use Rattle.dictionary.specs.Entries.{number_where, entry_of, said_at, vendor_of, code_of}
+use Rattle.dictionary.specs.Entries.{number_where, entry_of, vendor_of, code_of}
 use Rattle.exchange.specs.Positions.{IsFoundAmong}
 use Rattle.exchange.specs.Firsts.{find_in}
 use Rattle.exchange.proofs.Searches.{found_at, found_nothing}

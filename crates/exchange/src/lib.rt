@@ -1,6 +1,8 @@
 // 01, Exchange rules: those of a request, of an answer, of a transfer policy and of a time window, by the first
 // position of each entry in a list, and by the number of policies. A search for an AVP is in `search`, the rules in the
 // modules of their names.
+#![tactic(auto)]
+
 ghost use Rattle.std.specs.Prelude.{◌≡◌, ◌≤◌, min};
 ghost use Rattle.rules.specs.Verdict.{verdict_of, Answers};
 ghost use Rattle.rules.specs.Exchange.{by_command, exchange_by};
