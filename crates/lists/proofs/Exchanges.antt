@@ -2,7 +2,7 @@
 -- rules ask for has an entry, by the first positions of entries a list and each group are searched as 01 searches them,
 -- and the policies are as many as the search tells.
 use mathlib.Core.Path.{◌≡◌, refl, sym, ap, ◌∙◌}
-use mathlib.Core.Bool.{Bool, true, false, cond, ◌&&◌, and_comm}
+use mathlib.Core.Bool.{Bool, true, false, cond, and_comm}
 use mathlib.Core.List.{List, [], ◌∷◌}
 use Prim.Native.Nat.{ℕ, ◌+◌, ◌≤◌, ◌<◌}
 use native.Mathlib.Nat.{zero-add}

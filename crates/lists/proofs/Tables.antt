@@ -19,11 +19,11 @@ use Rattle.rules.specs.declared.Outcome.{Outcome}
 use Rattle.rules.specs.declared.Outcome.TheVariants.{Pass}
 use Rattle.rules.specs.Verdict.{refused, refuse_if}
 use Rattle.rules.specs.Rows.{Row, rows_of}
-use Rattle.rules.specs.Dictionary.{Entry, dictionary}
+use Rattle.rules.specs.Dictionary.{dictionary}
 use Rattle.rules.specs.RowChecks.{missing_from, missing}
 use Rattle.rules.proofs.Names.{Absent}
 use Rattle.dictionary.proofs.Entries.{said_behind}
-use Rattle.dictionary.specs.Entries.{said_at, vendor_of, code_of}
+use Rattle.dictionary.specs.Entries.{vendor_of, code_of}
 use Rattle.lists.specs.ByLog.{admission_at}
 use Rattle.lists.specs.Tables.{lists, list_at, ListAt, entry_places, row_places, for_member, mark_at, admission_in, AdmissionTable, Admits, Requirement, requirement_of, free_row, requirement_in, end_of_rows, requirements_from, RowTable, missing_among}
 

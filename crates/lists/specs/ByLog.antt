@@ -7,7 +7,7 @@ use Rattle.rules.specs.declared.Outcome.TheVariants.{Pass}
 use Rattle.rules.specs.declared.Members.{Members}
 use Rattle.rules.specs.declared.Members.TheVariants.{Under, NoMembers}
 use Rattle.rules.specs.declared.Admission.{Admission}
-use Rattle.rules.specs.declared.Admission.TheVariants.{ByRow, NoRow}
+use Rattle.rules.specs.declared.Admission.TheVariants.{NoRow}
 use Rattle.rules.specs.declared.Grammar.{Grammar}
 use Rattle.rules.specs.Verdict.{or_else}
 use Rattle.rules.specs.Avp.{end_of}

@@ -115,7 +115,8 @@ pub(crate) fn groups_outcome(
     while i < count {
         let position = i;
         i += 1;
-        let Members::Under(grammar) = dictionary::members_of(walk_log::entry_at(log, position)) else {
+        let Members::Under(grammar) = dictionary::members_of(walk_log::entry_at(log, position))
+        else {
             continue;
         };
         let to = least(walk_log::after_at(log, position), count);

@@ -2,6 +2,8 @@
 // group in walk order. The log has each AVP's entry, by which its row is looked up, and the position after its last
 // descendant, where the next member stands. The exchange rules go by the first positions that the rows' pass keeps, and
 // by the number of policies that the loop over groups counts.
+#![tactic(auto)]
+
 ghost use Rattle.std.specs.Prelude.{◌≡◌, cond, ◌≤◌, min};
 ghost use Rattle.rules.specs.Verdict.{verdict_of, Answers};
 ghost use Rattle.rules.specs.Rows.{admits_others};

@@ -6,9 +6,8 @@ use Rattle.rules.specs.RowChecks.{admission_from}
 use Rattle.lists.specs.ByLog.{admission_at}
 use Rattle.lists.specs.Tables.{admission_in}
 use Rattle.lists.proofs.Tables.{admission_rule}
-use Rattle.lists.proofs.admission_table.table.Statement.{statement}
-use Rattle.lists.proofs.admission_table.table.Tie as tie
+use Rattle.lists.proofs.admission_table.table.Goals as goal
 
-pub table-spec : {M : Type 1} → statement M
+pub returns : goal.returns
 unfolding dictionary admission_in admission_at admission_from rows_of
-table-spec = tie.close (tie.spec (λ c. admission_rule _ refl))
+returns c = admission_rule _ refl

@@ -5,9 +5,8 @@ use Rattle.rules.specs.Dictionary.{dictionary}
 use Rattle.dictionary.specs.Entries.{vendor_of, code_of}
 use Rattle.lists.specs.Tables.{requirement_in, requirements_from}
 use Rattle.lists.proofs.Tables.{row_rule}
-use Rattle.lists.proofs.row_table.table.Statement.{statement}
-use Rattle.lists.proofs.row_table.table.Tie as tie
+use Rattle.lists.proofs.row_table.table.Goals as goal
 
-pub table-spec : {M : Type 1} → statement M
+pub returns : goal.returns
 unfolding dictionary vendor_of code_of requirement_in requirements_from rows_of
-table-spec = tie.close (tie.spec (λ c. row_rule _ refl))
+returns c = row_rule _ refl
