@@ -34,7 +34,9 @@ returns-in-Refused-in_groups c =
     let asked = used a.log.now a.rules a.s.now a.end a.count _ c.used-used.ensures in
     let groups = c.groups_outcome-groups.ensures in
     answers _ _ _
-    (group_refused _ _ _ _ _ _ _ c.list_outcome-own.ensures.is c.in_default.is _ groups.rows c.in-Refused-in_groups.is ∙ asked)
+    (group_refused _ _ _ _ _ _ _ c.list_outcome-own.ensures.is c.in_default.is _ groups.rows
+    c.in-Refused-in_groups.is
+    ∙ asked)
 
 pub returns : goal.returns
 returns c =

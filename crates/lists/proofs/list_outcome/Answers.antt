@@ -35,7 +35,8 @@ module _ (log : List ℕ) (to : ℕ) (few : to ≤ most_avps) where
   onward i next here after = omega (arith, on i here)
 
   -- what is left, with the row that names the member, what that says, and its count
-  member : (i : ℕ) → i < to → (a : Avp) (entry next : ℕ) → a ≡ avp_of log i → entry ≡ entry_at log i → next ≡ after_at log i
+  member : (i : ℕ) → i < to → (a : Avp) (entry next : ℕ)
+      → a ≡ avp_of log i → entry ≡ entry_at log i → next ≡ after_at log i
       → (g : Grammar) (end : ℕ) (counts : List ℕ) (first : Bool) (m : Admission) (o : Outcome)
       → m ≡ for_member (admission_at g entry) → o ≡ by_admission (admits_others g) counts first a m
       → or_else o (left_by (logged_of log) to g end (counted counts m) false next)
@@ -50,9 +51,9 @@ pub returns-in_default-other : goal.returns-in_default-other
 returns-in_default-other c =
     let a = c.args in
     let l = c.loop-i in
-    let left = member a.log.now a.to c.requires.few l.i c.loop-i-test.true _ _ _ c.get-a.ensures c.entry_at-entry.ensures
-    c.after_at-i.ensures a.grammar a.end l.counts l.first NoRow _ (sym c.in_default.is ∙ c.row_of.ensures.is)
-    c.without_row-other.ensures in
+    let left = member a.log.now a.to c.requires.few l.i c.loop-i-test.true _ _ _ c.get-a.ensures
+    c.entry_at-entry.ensures c.after_at-i.ensures a.grammar a.end l.counts l.first NoRow _
+    (sym c.in_default.is ∙ c.row_of.ensures.is) c.without_row-other.ensures in
     record {
       is = sym (refused_first _ _ c.in_default-other.is) ∙ left ∙ l.invariant.1;
       kept = λ p. never (sym c.in_default-other.is ∙ p);
@@ -67,11 +68,11 @@ loop-i-preserved-in_default c =
     let a = c.args in
     let l = c.loop-i in
     let step = onward a.log.now a.to c.requires.few l.i c.after_at-i.result c.loop-i-test.true c.after_at-i.ensures in
-    let left = member a.log.now a.to c.requires.few l.i c.loop-i-test.true _ _ _ c.get-a.ensures c.entry_at-entry.ensures
-    c.after_at-i.ensures a.grammar a.end l.counts l.first NoRow _ (sym c.in_default.is ∙ c.row_of.ensures.is)
-    c.without_row-other.ensures in
-    let noted = firsts_next (logged_of a.log.now) a.to (on a.log.now a.to c.requires.few) l.i l.firsts c.loop-i-test.true
-    _ _ c.entry_at-entry.ensures c.after_at-i.ensures in (
+    let left = member a.log.now a.to c.requires.few l.i c.loop-i-test.true _ _ _ c.get-a.ensures
+    c.entry_at-entry.ensures c.after_at-i.ensures a.grammar a.end l.counts l.first NoRow _
+    (sym c.in_default.is ∙ c.row_of.ensures.is) c.without_row-other.ensures in
+    let noted = firsts_next (logged_of a.log.now) a.to (on a.log.now a.to c.requires.few) l.i l.firsts
+    c.loop-i-test.true _ _ c.entry_at-entry.ensures c.after_at-i.ensures in (
       λ row. omega (arith, l.invariant.0 row, step),
       sym (pass_first _ _ c.in-Pass.is) ∙ left ∙ l.invariant.1,
       rw c.note.ensures (sym noted ∙ l.invariant.2),
@@ -82,9 +83,9 @@ pub returns-in_default-outcome : goal.returns-in_default-outcome
 returns-in_default-outcome c =
     let a = c.args in
     let l = c.loop-i in
-    let left = member a.log.now a.to c.requires.few l.i c.loop-i-test.true _ _ _ c.get-a.ensures c.entry_at-entry.ensures
-    c.after_at-i.ensures a.grammar a.end l.counts l.first (ByRow _ _) _ (sym c.in-ByRow.is ∙ c.row_of.ensures.is)
-    c.by_mark-outcome.ensures in
+    let left = member a.log.now a.to c.requires.few l.i c.loop-i-test.true _ _ _ c.get-a.ensures
+    c.entry_at-entry.ensures c.after_at-i.ensures a.grammar a.end l.counts l.first (ByRow _ _) _
+    (sym c.in-ByRow.is ∙ c.row_of.ensures.is) c.by_mark-outcome.ensures in
     record {
       is = sym (refused_first _ _ c.in_default-outcome.is) ∙ left ∙ l.invariant.1;
       kept = λ p. never (sym c.in_default-outcome.is ∙ p);
@@ -99,12 +100,12 @@ loop-i-preserved c =
     let a = c.args in
     let l = c.loop-i in
     let step = onward a.log.now a.to c.requires.few l.i c.after_at-i.result c.loop-i-test.true c.after_at-i.ensures in
-    let left = member a.log.now a.to c.requires.few l.i c.loop-i-test.true _ _ _ c.get-a.ensures c.entry_at-entry.ensures
-    c.after_at-i.ensures a.grammar a.end l.counts l.first (ByRow _ _) _ (sym c.in-ByRow.is ∙ c.row_of.ensures.is)
-    c.by_mark-outcome.ensures in
+    let left = member a.log.now a.to c.requires.few l.i c.loop-i-test.true _ _ _ c.get-a.ensures
+    c.entry_at-entry.ensures c.after_at-i.ensures a.grammar a.end l.counts l.first (ByRow _ _) _
+    (sym c.in-ByRow.is ∙ c.row_of.ensures.is) c.by_mark-outcome.ensures in
     let more = counted_at_most l.counts (ByRow c.in-ByRow.row c.in-ByRow.mark) l.i l.invariant.0 in
-    let noted = firsts_next (logged_of a.log.now) a.to (on a.log.now a.to c.requires.few) l.i l.firsts c.loop-i-test.true
-    _ _ c.entry_at-entry.ensures c.after_at-i.ensures in (
+    let noted = firsts_next (logged_of a.log.now) a.to (on a.log.now a.to c.requires.few) l.i l.firsts
+    c.loop-i-test.true _ _ c.entry_at-entry.ensures c.after_at-i.ensures in (
       rw c.counted-more.ensures (λ row. omega (arith, more row, step)),
       rw c.counted-more.ensures (sym (pass_first _ _ c.in-Pass-outcome.is) ∙ left ∙ l.invariant.1),
       rw c.note.ensures (sym noted ∙ l.invariant.2),

@@ -12,4 +12,5 @@ returns-then-entry-ge-NO_ENTRY c =
 pub returns : goal.returns
 returns c =
     let a = c.args in
-    ap (λ (v : ℕ). set a.firsts.now a.entry v) c.least.ensures ∙ sym (noted_at a.firsts.now a.entry a.position c.if-entry-ge-NO_ENTRY.false)
+    ap (λ (v : ℕ). set a.firsts.now a.entry v) c.least.ensures
+    ∙ sym (noted_at a.firsts.now a.entry a.position c.if-entry-ge-NO_ENTRY.false)

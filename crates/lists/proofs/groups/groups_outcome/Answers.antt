@@ -17,7 +17,8 @@ use Rattle.walk_log.specs.Log.{logged_of, avp_of, entry_at, after_at, avps_in}
 use Rattle.exchange.specs.Firsts.{find_in}
 use Rattle.lists.specs.ByLog.{list_by, group_at}
 use Rattle.lists.specs.Exchanges.{as_policy, as_window, policy_logged, window_logged}
-use Rattle.lists.proofs.Members.{policies_next, policies_other, policies_all, reached_next, reached_pass, reached_all, reached_fault, no_rows, not_policy, no_policy, no_window}
+use Rattle.lists.proofs.Members.{policies_next, policies_other, policies_all, reached_next, reached_pass, reached_all, reached_fault}
+use Rattle.lists.proofs.Members.{no_rows, not_policy, no_policy, no_window}
 use Rattle.lists.proofs.groups.groups_outcome.Goals as goal
 
 -- a group: what its rows say
