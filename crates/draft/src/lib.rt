@@ -1,5 +1,7 @@
 // 01, The record and the writer, 7006: the tests of a draft whose record is given as numbers, one after the other, and
 // the size of its command. That identifiers, vendors and codes fit four octets is so by their type.
+#![tactic(auto)]
+
 ghost use Rattle.std.specs.Prelude.{◌≡◌, ◌&&◌, List, ℕ, ◌≤◌, ◌<◌, leb, length, drop};
 ghost use Rattle.rules.specs.Dictionary.{dictionary};
 ghost use Rattle.rules.specs.Walk.{most_avps, deepest};
