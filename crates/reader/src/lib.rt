@@ -1,4 +1,6 @@
 // The reader of commands: the verdict and the record of a slice of octets.
+#![tactic(auto)]
+
 ghost use Rattle.std.specs.Prelude.{◌≡◌};
 ghost use Rattle.rules.specs.Verdict.{verdict, verdict_of};
 ghost use Rattle.rules.specs.Record.{reading};
