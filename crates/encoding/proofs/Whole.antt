@@ -1,5 +1,5 @@
--- The AVPs of a well_formed draft: data that lies in the octets, and read groups without padding.
-use mathlib.Core.Path.{◌≡◌, ap, ◌∙◌}
+-- The AVPs of a well-formed draft: data that lies in the octets, and read groups without padding.
+use mathlib.Core.Path.{◌≡◌}
 use mathlib.Core.Bool.{true, false}
 use mathlib.Core.List.{List, [], ◌∷◌}
 use Prim.Native.Nat.{ℕ, ◌≤◌}

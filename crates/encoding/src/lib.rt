@@ -1,5 +1,7 @@
 // The octets of a draft's command, in an array that has room for the longest. The writer's own refusals, 7006, 7001 and
 // 7004, come first; the reader is not asked here.
+#![tactic(auto)]
+
 ghost use Rattle.std.specs.Prelude.{◌≡◌};
 ghost use Rattle.std.proofs.lemmas.List.Edits.{sets};
 ghost use Rattle.numbers.specs.Draft.{numbered_draft};
