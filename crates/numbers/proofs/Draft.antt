@@ -40,7 +40,7 @@ module _ (numbers s : List ℕ) where
   unfolding draft_outcome own_outcome
   unfit_7006 e room = rw (draft_unfit e)
 
-  -- a well_formed draft is the numbered record over the octets
+  -- a well-formed draft is the numbered record over the octets
   pub draft_formed : is_well_formed (numbered_draft numbers s) ≡ true → numbered_draft numbers s ≡ draft_of (numbered_record numbers) s
   draft_formed e =
       by_cases (flags_fit numbers) draft_fit
