@@ -1,5 +1,7 @@
 // Commands from a link (02, [7]): a reader that takes octets as they come, in fragments that end anywhere, into a
 // buffer that the caller lends, and gives the reader's verdict as soon as a command is whole.
+#![tactic(auto)]
+
 ghost use Rattle.std.specs.Prelude.{◌≡◌, ◌-◌, ◌≤◌, ◌<◌, min, length};
 ghost use Rattle.rules.specs.Header.{longest_command};
 ghost use Rattle.fragments.specs.Link.{state, fresh, is_length, is_usable, length_refusal, refused_call, step_by};
