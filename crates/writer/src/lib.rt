@@ -1,6 +1,8 @@
 // The writer of commands: from a draft, a record over lent octets, to a command in a lent output. A refused output
 // stays as it was, so the command is first put into an array of the longest command's size, and there the reader judges
 // it.
+#![tactic(auto)]
+
 ghost use Rattle.std.specs.Prelude.{◌≡◌, [], length, take};
 ghost use Rattle.rules.specs.Header.{longest_command};
 ghost use Rattle.rules.specs.Draft.{draft_of};
