@@ -1,5 +1,7 @@
 // The listing of a book of captured commands (01, The book and its listing), put line by line into octets that the
 // caller lends; each function that puts a part returns the place behind it. The lines are those of `lines`.
+#![tactic(auto)]
+
 ghost use Rattle.std.specs.Prelude.{◌≡◌, false, ◌-◌, ◌≤◌, ◌<◌, length};
 ghost use Rattle.rules.specs.Command.{command_verdict};
 ghost use Rattle.rules.specs.Book.{is_cut, is_book, command_in, acceptance};
