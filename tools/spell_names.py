@@ -44,7 +44,7 @@ def is_proof_of_function(path):
 
 def snake(word):
     word = word.replace("3GPP", "_3gpp")
-    word = re.sub(r"(?<=[a-z0-9])[A-Z]", lambda m: "_" + m[0].lower(), word)
+    word = re.sub(r"(?<=[a-z0-9])[A-Z]|(?<=[A-Z])[A-Z](?=[a-z])", lambda m: "_" + m[0].lower(), word)
     return word.replace("__", "_")
 
 

@@ -11,7 +11,7 @@ use lib.Dec.{eqb}
 use Rattle.rules.specs.declared.Verdict.{Verdict}
 use Rattle.rules.specs.Command.{command_verdict}
 use Rattle.rules.specs.Lines.{command_line, cut_line, end_line}
-use Rattle.rules.specs.Book.{length_of, is_cut, is_book, command_in, acceptance, head_line, not_aBook, lines_from, listing, book_head}
+use Rattle.rules.specs.Book.{length_of, is_cut, is_book, command_in, acceptance, head_line, not_a_book, lines_from, listing, book_head}
 use Rattle.lines.specs.Promise.{Put, PutWithin}
 use Rattle.lines.proofs.Text.{joined}
 use Rattle.book.specs.Promise.{ListingPut, HeadPut, lines_of, room}
@@ -110,7 +110,7 @@ pub head_put : {book : List ℕ} {r : ℕ} → is_book book ≡ true → r ≤ 6
 head_put {book} e h = record { head = book_head_lem book e; short = book_size book e; place = h }
 
 module _ (book before : List ℕ) {r : ℕ} {after : List ℕ} where
-  pub listed_none : is_book book ≡ false → Put before 0 not_aBook r after → ListingPut book before r after
+  pub listed_none : is_book book ≡ false → Put before 0 not_a_book r after → ListingPut book before r after
   unfolding listing
   listed_none e p = record { count = rw e (omega (arith, p.next)); octets = rw e p.octets; within = omega (arith, p.next) }
 

@@ -250,7 +250,7 @@ module _ {A : Type 0} (none : A) (says : Entry → A) (P : A → Type 0) (test :
 
 -- a code of a vendor's that no entry has, where a `match` has the vendor's codes of one part
 abbrev pub is_in_part : ℕ → (ℕ → Bool) → Entry → Bool
-is_in_part vendor inPart e = inPart e.code && eqb vendor e.vendor
+is_in_part vendor in_part e = in_part e.code && eqb vendor e.vendor
 
 one_lacking : (b : Bool) (code k : ℕ) (others : List ℕ) → Absent (cons_if b k others) code
     → ((b && eqb code k) ≡ false) × Absent others code
@@ -265,17 +265,17 @@ codes_lacking test (e ∷ es) code others a =
     let one = one_lacking (test e) code e.code others r.1 in
     (rw one.0 r.0, one.1)
 
-not_in_part : (inPart : ℕ → Bool) (code k : ℕ) (own same : Bool) → inPart code ≡ true → eqb code k ≡ same
-    → ((inPart k && own) && same) ≡ false → (same && own) ≡ false
-not_in_part inPart code k own false h s f = refl
-not_in_part inPart code k own true h s f = sym (and_comm own true) ∙ (rw (← eqb-true code k s, h) at f)
+not_in_part : (in_part : ℕ → Bool) (code k : ℕ) (own same : Bool) → in_part code ≡ true → eqb code k ≡ same
+    → ((in_part k && own) && same) ≡ false → (same && own) ≡ false
+not_in_part in_part code k own false h s f = refl
+not_in_part in_part code k own true h s f = sym (and_comm own true) ∙ (rw (← eqb-true code k s, h) at f)
 
-pub absent_code : (inPart : ℕ → Bool) (es : List Entry) (vendor code : ℕ) → inPart code ≡ true
-    → Absent (codes_where (is_in_part vendor inPart) es []) code → entry_of es vendor code ≡ length es
-absent_code inPart es vendor code h a =
-    none_found (λ e. is_in_part vendor inPart e && eqb code e.code) (λ e. eqb code e.code && eqb vendor e.vendor)
-    (λ e f. not_in_part inPart code e.code (eqb vendor e.vendor) (eqb code e.code) h refl f) es
-    (codes_lacking (is_in_part vendor inPart) es code [] a).0
+pub absent_code : (in_part : ℕ → Bool) (es : List Entry) (vendor code : ℕ) → in_part code ≡ true
+    → Absent (codes_where (is_in_part vendor in_part) es []) code → entry_of es vendor code ≡ length es
+absent_code in_part es vendor code h a =
+    none_found (λ e. is_in_part vendor in_part e && eqb code e.code) (λ e. eqb code e.code && eqb vendor e.vendor)
+    (λ e f. not_in_part in_part code e.code (eqb vendor e.vendor) (eqb code e.code) h refl f) es
+    (codes_lacking (is_in_part vendor in_part) es code [] a).0
 
 -- ---- by document 01's columns
 

@@ -17,7 +17,7 @@ no_firsts = replicate (length dictionary) most_avps
 unfoldable pub noted : List ℕ → ℕ → ℕ → List ℕ
 noted firsts entry i = cond (ltb entry (length dictionary)) (set firsts entry (min (get_or firsts entry 0) i)) firsts
 
--- the members of a list in order, as `loggedMembers` has them
+-- the members of a list in order, as `logged_members` has them
 unfoldable pub firsts_from : ℕ → (ℕ → Logged) → ℕ → ℕ → List ℕ → List ℕ
 firsts_from zero at i stop firsts = firsts
 firsts_from (suc n) at i stop firsts =

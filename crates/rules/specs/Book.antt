@@ -14,8 +14,8 @@ abbrev pub head_line : List ℕ
 head_line = text "NTB 1\n"
 
 -- the only line of what is no book
-abbrev pub not_aBook : List ℕ
-not_aBook = text "not a book\n"
+abbrev pub not_a_book : List ℕ
+not_a_book = text "not a book\n"
 
 -- the length field of the command at an offset
 abbrev pub length_of : List ℕ → ℕ → ℕ
@@ -58,7 +58,7 @@ is_book s =
 
 -- the whole listing. One without `end` is no pass
 unfoldable pub listing : List ℕ → List ℕ
-listing s = cond (is_book s) (head_line ++ lines_from (length s) s book_head 0 0) not_aBook
+listing s = cond (is_book s) (head_line ++ lines_from (length s) s book_head 0 0) not_a_book
 
 -- ---- what is claimed of a listing (proofs/demands/Listings)
 

@@ -120,15 +120,15 @@ module _ (s : List ℕ) (at end : ℕ) (place : InList s at end) where
     pub read_left : length rest_of < 8 → Broken (verdict 5014 at 0 0) ≡ frame_at
     read_left h = rw (framing_left s at end (rw rest_left at h))
 
-    module _ (eight : 8 ≤ length rest_of) {code : ℕ} (codeIs : code ≡ number_at 4 rest_of 0) where
+    module _ (eight : 8 ≤ length rest_of) {code : ℕ} (code_is : code ≡ number_at 4 rest_of 0) where
       left : 8 ≤ end - at
       left = rw rest_left at eight
 
       pub read_vendor_left : flag_v (get_or rest_of 4 0) ≡ true → length rest_of < 12 → Broken (verdict 5014 at 0 code) ≡ frame_at
       read_vendor_left v h =
-          rw (codeIs, rest_code left, framing_vendor_left s at end left (rw (rest_flags left) at v) (rw rest_left at h))
+          rw (code_is, rest_code left, framing_vendor_left s at end left (rw (rest_flags left) at v) (rw rest_left at h))
 
-      module _ {size : ℕ} (sizeIs : size ≡ number_at 3 rest_of 5) where
+      module _ {size : ℕ} (size_is : size ≡ number_at 3 rest_of 5) where
         -- both answers by a header of this size, with the length field tested
         abbrev By : ℕ → ℕ → Type 0
         By header vendor =
@@ -139,7 +139,7 @@ module _ (s : List ℕ) (at end : ℕ) (place : InList s at end) where
             → By (header_of v) (cond v (number_at 4 s (at + 8)) 0)
         read_by v is h =
             let frame = framing_by s at end v is h ∙ refuse_either (ltb (length_at s at) (header_of v)) (ltb (end - at) (padded (length_at s at))) _ in
-            rw (codeIs, sizeIs, rest_left, rest_code left, rest_number 3 5 left, rest_flags left, frame, avp_at_by s at depth v is) (
+            rw (code_is, size_is, rest_left, rest_code left, rest_number 3 5 left, rest_flags left, frame, avp_at_by s at depth v is) (
               λ h. rw h,
               λ h. rw h,
             )
@@ -148,6 +148,6 @@ module _ (s : List ℕ) (at end : ℕ) (place : InList s at end) where
         read_plain v = read_by false (rw (rest_flags left) at v) left
 
         pub read_vendor : flag_v (get_or rest_of 4 0) ≡ true → 12 ≤ length rest_of → {vendor : ℕ} → vendor ≡ number_at 4 rest_of 8 → By 12 vendor
-        read_vendor v h vendorIs =
+        read_vendor v h vendor_is =
             let k = rw rest_left at h in
-            rw (vendorIs, rest_number 4 8 k) (read_by true (rw (rest_flags left) at v) k)
+            rw (vendor_is, rest_number 4 8 k) (read_by true (rw (rest_flags left) at v) k)

@@ -1,7 +1,7 @@
 -- `book::listing` meets its contract.
 use mathlib.Core.Path.{sym, ◌∙◌}
 use native.Mathlib.Omega.{arith}
-use Rattle.rules.specs.Book.{head_line, not_aBook}
+use Rattle.rules.specs.Book.{head_line, not_a_book}
 use Rattle.lines.specs.Promise.{Put}
 use Rattle.book.proofs.Turns.{head_put, listed, listed_none}
 use Rattle.book.proofs.listing.Goals as goal
@@ -21,6 +21,6 @@ returns-then-is_book c =
 pub returns : goal.returns
 returns c =
     let a = c.args in
-    let words : Put a.out.now 0 not_aBook c.put_first_line.result c.put_first_line.new.out =
+    let words : Put a.out.now 0 not_a_book c.put_first_line.result c.put_first_line.new.out =
     c.put_first_line.ensures in
     listed_none _ _ (sym c.is_book.ensures ∙ c.if-is_book.false) words

@@ -13,7 +13,7 @@ use lib.Seq.{length-take-le}
 use Rattle.rules.specs.Octets.{AreOctets, number_at}
 use Rattle.rules.specs.Header.{header_size}
 use Rattle.rules.specs.Lines.{cut_line, end_line}
-use Rattle.rules.specs.Book.{head_line, length_of, book_head, longest_book, is_book, listing, not_aBook, BookCommand, AllBookCommands, CutOff, joined, book_of, Parted, NoBook, command_lines, accepted_of}
+use Rattle.rules.specs.Book.{head_line, length_of, book_head, longest_book, is_book, listing, not_a_book, BookCommand, AllBookCommands, CutOff, joined, book_of, Parted, NoBook, command_lines, accepted_of}
 use Rattle.rules.proofs.Octets.{number_at_in, number_at_part, number_at_digits}
 use Rattle.rules.proofs.Tests.{and_true}
 use Rattle.rules.proofs.Walk.{by_cases}
@@ -181,7 +181,7 @@ passes_not s oct none passes =
 -- Carried by head_is.
 -- Ruled out: a head of version 2 that is read as one of version 1; a book of more than 65,536 octets that is listed in
 -- part.
-pub listing_no_book : (s : List ℕ) → AreOctets s → NoBook s → listing s ≡ not_aBook
+pub listing_no_book : (s : List ℕ) → AreOctets s → NoBook s → listing s ≡ not_a_book
 unfolding listing
 listing_no_book s oct none =
     by_cases (is_book s) (λ passes. absurd (passes_not s oct none passes)) (λ e. rw e)
