@@ -1,6 +1,8 @@
 // The canonical form of an accepted command, by which the lab names a state: the command's record, written over its
 // octets. Two accepted commands have the same form exactly when they have the same meaning
 // (rules/proofs/demands/States).
+#![tactic(auto)]
+
 ghost use Rattle.canonical.specs.Promise.{IsCanonical};
 
 use rules::Written;
