@@ -1,5 +1,5 @@
-/* Talazumir: the proved reader and writer of Nt commands, for C callers. Link with target/staticlib/libboundary.a,
- * which `rt staticlib boundary` proves and builds (x86-64 Linux).
+/* Talazumir: the proved reader and writer of Nt commands, for C callers. Link with crates/boundary/out/libboundary.a,
+ * which `rt lib` in crates/boundary proves and builds (x86-64 Linux).
  *
  * Each function has one answer for every content of what it is handed; there is no error besides the answers below.
  * What the caller sees to: pointers are not NULL, also where a length is 0; a slice has the octets that its length

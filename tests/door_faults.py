@@ -17,16 +17,31 @@ from fault_tools import (COMPLETE, DOOR, FAILED, HANGING, Imitation, KIT, LINK, 
                          expect_words, has_end_line, longest_book, run, script, sha256)
 
 STAMP = "3" * 64
-OK = "echo 'rt: ok, 2 crates proved'"
+PROVED = "echo logic=proved functions=2"
 SOURCE = "crates/book/src/lib.rt"
-OWN_TOOLS = "basename cat dirname env find grep mktemp readlink rm rt sha256sum sort tail uname xargs".split()
+OWN_TOOLS = "cat env find grep mktemp python3 readlink rm rt sha256sum sort tail xargs".split()
 GIT_IDENTITY = ["-c", "user.name=test", "-c", "user.email=test"]
-BUILD_TOOLS = "awk chmod chown cmp cp cut date flock head id ls mkdir mv nproc sed sleep timeout tr wc".split()
+BUILD_TOOLS = "cmp flock head mkdir mv sh sleep timeout".split()
+
+
+def copies(program=PROGRAM, name="verdicts"):
+    """A build that leaves this program."""
+    return f"'{shutil.which('cp')}' '{program}' crates/{name}/out/{name}"
+
+
+def stamps(program=PROGRAM, name="verdicts"):
+    """A build that leaves the stamp for this program."""
+    return f"printf %s {STAMP}{sha256(program.read_bytes())} >crates/{name}/out/{name}.stamp"
+
+
+def runs(name="verdicts"):
+    """What rt says when it has proved and built."""
+    return f"{{ {PROVED}; echo linked files=out/{name}.o; echo 'rt: running out/{name}; for other input, run it'; }}"
 
 
 def proves(program=PROGRAM, name="verdicts"):
-    """A check that builds this program."""
-    return f"echo of rt\ncp '{program}' target/bin/{name} && echo {STAMP} >target/stamp/{name} && {OK}"
+    """A check that builds this program, and runs it."""
+    return f"echo of rt\n{copies(program, name)} && {stamps(program, name)} && {runs(name)} && echo not a book"
 
 
 def built(name, door, *words, **how):
@@ -68,13 +83,18 @@ def first_use(folder):
 def incomplete_checks(folder):
     """rt passes, and what it leaves does not bear it out."""
     cases = [
-        ("leaves no program", f"echo {STAMP} >target/stamp/verdicts; {OK}", "left no program"),
-        ("leaves no stamp", f"cp '{PROGRAM}' target/bin/verdicts; {OK}", "left no program"),
-        ("leaves an empty stamp", f"cp '{PROGRAM}' target/bin/verdicts; : >target/stamp/verdicts; {OK}",
-         "left no program"),
-        ("does not say so", f"cp '{PROGRAM}' target/bin/verdicts; echo {STAMP} >target/stamp/verdicts", "disk full"),
-        # As rt does where it cannot write its logs: what an earlier check said of `book` is taken for this one's.
-        ("cannot write its logs", f"[ \"$(cat target/log/book.res)\" = proved ] || exit 1\n{proves()}", "not proved"),
+        ("leaves no program", f"{stamps()}; {runs()}", "left no program"),
+        ("leaves no stamp", f"{copies()}; {runs()}", "left no program"),
+        ("leaves an empty stamp", f"{copies()}; : >crates/verdicts/out/verdicts.stamp; {runs()}", "left no program"),
+        ("leaves the stamp of another program", f"{copies()}; {stamps(LINK)}; {runs()}", "left no program"),
+        ("does not say so", f"{copies()}; {stamps()}", "disk full"),
+        ("says only that it proved", f"{copies()}; {stamps()}; {PROVED}", "disk full"),
+        ("says only that it runs the program", f"{copies()}; {stamps()}; {runs()} | grep -v logic=", "disk full"),
+        ("says that the program is not proved", f"{copies()}; {stamps()}; {runs()} | sed s/=proved/=not-proved/",
+         "disk full"),
+        ("says that it proved before it says that it did not",
+         f"{copies()}; {stamps()}; {PROVED}; {runs()} | sed s/=proved/=not-proved/", "disk full"),
+        ("runs another program", f"{copies()}; {stamps()}; {runs('link')}", "disk full"),
         ("has its sources edited", f"{proves()}; echo edited >>crates/book/src/lib.rt", "changed during the check"),
         ("has its list of crates edited", f"{proves()}; echo >>crates.txt", "changed during the check"),
         ("has its sources edited and put back with their times",
@@ -92,7 +112,6 @@ def incomplete_checks(folder):
     ]
     for number, (name, rt, words) in enumerate(cases):
         door = Imitation(folder / f"incomplete{number}", PROGRAM)
-        (door.place / "target/log/book.res").write_text("proved\n")
         door.source.write_text("changed\n")
         script(door.place / "path/exchange", f"rm \"$0\"; echo >>'{door.program}'\n"
                f"exec '{os.path.dirname(shutil.which('sort'))}'/${{0##*/}} \"$@\"")
@@ -126,7 +145,7 @@ def other_programs(folder):
         built(f"a program that is {name}", door, wrong)
     door = Imitation(folder / "planted")
     shutil.copy(PROGRAM, door.program)
-    door.stamp.write_text(STAMP + "\n")
+    door.stamp.write_text(STAMP + sha256(PROGRAM.read_bytes()))
     refused("a program and a stamp without a record", door.list(), "no check from here")
     check("front door, a program and a stamp without a record", "checks asked for", door.asked(), 1)
 
@@ -188,40 +207,46 @@ def other_origins(folder):
         for path in (door.source, door.place / "crates", door.place / "crates.txt"):
             os.utime(path, (when, when))
         expect_sample("sources with times of " + name, door.list())
-    (door.place / "crates/link").symlink_to(PROGRAM)
+    (door.place / "crates/other").symlink_to(PROGRAM)
     refused("a link among the sources", door.list(), "neither file nor folder")
+    (door.place / "crates/other").unlink()
+    (door.place / "crates/link/out").rmdir()
+    (door.place / "crates/link/out").symlink_to(door.place / "crates/book/out")
+    refused("a link in the place of an out/", door.list(), "neither file nor folder")
 
 
 def libraries(folder):
-    """rt takes a library with a fitting stamp as it is, so one that the record does not vouch for is removed first."""
-    look = "ls target/stamp target/rlib >target/seen 2>&1; exit 1"
+    """rt takes a library with a fitting stamp, and what a check kept, as they are, so what the record does not vouch for
+    is removed first, and all that is kept of the program."""
+    library = "crates/book/out/rlib/book.rlib/code"
+    rebuilt = {library, "crates/book/out/rlib/stamp", "crates/book/out/incremental/kept"}
     def seen(name, change, kept):
         door = Imitation(folder / ("library-" + name.replace(" ", "-")), PROGRAM)
-        (door.place / "target/obj").mkdir()
-        (door.place / "target/obj/verdicts.o").write_text("")
+        (door.place / "crates/verdicts/out/incremental").mkdir()
+        (door.place / "crates/verdicts/out/verdicts.o").write_text("")
         change(door)
         door.program.unlink(missing_ok=True)
-        door.rt(look)
+        door.rt("find crates -path '*/out/*' -type f >target/seen; find crates/verdicts/out >>target/seen; exit 1")
         refused("a library, " + name, door.list())
-        left = (door.place / "target/seen").read_text().split()
-        check("front door, a library, " + name, "kept for rt", "book" in left and "book.rlib" in left, kept)
-        check("front door, a library, " + name, "removed for rt", not {"book", "book.rlib"} & set(left), not kept)
-        check("front door, a library, " + name, "stamp or object of the program left",
-              "verdicts" in left or os.listdir(door.place / "target/obj") != [], False)
+        left = set((door.place / "target/seen").read_text().splitlines())
+        check("front door, a library, " + name, "left for rt", left,
+              (rebuilt if kept else set()) | {"crates/verdicts/out"})
     def edited_meanwhile(door):
         door.source.write_text("edited\n")
-        door.rt("echo of an edited source >target/rlib/book.rlib/code; echo >>crates/book/src/lib.rt; exit 1")
+        door.rt(f"echo of an edited source >{library}; echo >>crates/book/src/lib.rt; exit 1")
         door.list()
     def made_in_vain(door):
         door.program.unlink()
-        door.rt("echo of a new library >target/rlib/book.rlib/code; exit 1")
+        door.rt(f"echo of a new library >{library}; exit 1")
         door.list()
-    def patch(door):
-        (door.place / "target/rlib/book.rlib/code").write_text("patched\n")
+    def patch(part):
+        return lambda door: (door.place / "crates/book/out" / part).write_text("patched\n")
     seen("as recorded", lambda door: None, True)
-    seen("patched", patch, False)
-    seen("with another stamp", lambda door: (door.place / "target/stamp/book").write_text(STAMP), False)
-    seen("without its stamp", lambda door: (door.place / "target/stamp/book").unlink(), False)
+    seen("patched", patch("rlib/book.rlib/code"), False)
+    seen("with another stamp", patch("rlib/stamp"), False)
+    seen("without its stamp", lambda door: (door.place / "crates/book/out/rlib/stamp").unlink(), False)
+    seen("with other kept work", patch("incremental/kept"), False)
+    seen("with kept work more", patch("incremental/more"), False)
     seen("without a record of it", lambda door: door.libraries.unlink(), False)
     seen("made by a check that failed", made_in_vain, True)
     seen("after a check with its source edited meanwhile", edited_meanwhile, False)
@@ -469,7 +494,7 @@ def environment(folder):
     built("a build in a strange environment", door, env={**environments[0], **environments[-1], "STRANGE": "1"})
     names = {line.partition("=")[0] for line in (door.place / "target/environment").read_text().splitlines()}
     check("front door, a build in a strange environment", "variables of rt", names - {"PWD", "OLDPWD", "SHLVL", "_"},
-          {"PATH", "HOME", "TMPDIR", "RATTLE_HOME", "RT_JOBS", "RT_CUT", "GIT_OPTIONAL_LOCKS", "LC_ALL"})
+          {"PATH", "HOME", "TMPDIR", "GIT_OPTIONAL_LOCKS", "LC_ALL"})
 
 
 def shells(folder):
@@ -550,7 +575,7 @@ def version(folder):
     check("front door, --version, a folder of another repository", "text", inner.list("--version")[1].decode(),
           f"{unknown}, {proved}, link not built\n")
     git("init", "--quiet")
-    (door.place / ".gitignore").write_text("target/\n")
+    (door.place / ".gitignore").write_text("target/\nout/\n")
     git("add", ".")
     git("commit", "--quiet", "--message", "test")
     commit = git("rev-parse", "HEAD")
@@ -563,7 +588,7 @@ def version(folder):
     door.program.unlink()
     none = f"commit {commit} (with changes), kit {KIT}, program not built"
     expect_version("no program", none)
-    shutil.copy(LINK, door.place / "target/bin/link")
+    shutil.copy(LINK, door.place / "crates/link/out/link")
     hash_and_doubt = f"{sha256(LINK.read_bytes())} (not proved here: the program was built elsewhere, or by rt alone: "
     expect_version("a program for streams that rt built", none, hash_and_doubt + "no check from here vouches for it)")
     check("front door, --version", "checks asked for", door.asked(), 0)

@@ -13,8 +13,8 @@ import threading
 import time
 
 ROOT = pathlib.Path(__file__).resolve().parent.parent
-PROGRAM = ROOT / "target/bin/verdicts"
-LINK = ROOT / "target/bin/link"
+PROGRAM = ROOT / "crates/verdicts/out/verdicts"
+LINK = ROOT / "crates/link/out/link"
 DOOR = ROOT / "verdicts"
 HANGING = 120  # seconds, against hanging only
 COMPLETE, CUT, NO_BOOK, FAILED, NOT_BUILT, USAGE = 0, 1, 2, 3, 4, 64
@@ -155,15 +155,16 @@ class Imitation:
     `verdicts` or as `link`."""
 
     def __init__(self, place, program=None, name="verdicts"):
-        for part in ("crates/book/src", "target/bin", "target/stamp", "target/log", "target/rlib/book.rlib", "path"):
+        for part in ("crates/book/src", "crates/book/out/rlib/book.rlib", "crates/book/out/incremental",
+                     "crates/verdicts/out", "crates/link/out", "target", "path"):
             (place / part).mkdir(parents=True)
         for part in (place, *place.parents[:1]):
             part.chmod(0o755)
         self.place = place
         self.door = place / "verdicts"
         self.name = name
-        self.program = place / f"target/bin/{name}"
-        self.stamp = place / f"target/stamp/{name}"
+        self.program = place / f"crates/{name}/out/{name}"
+        self.stamp = place / f"crates/{name}/out/{name}.stamp"
         self.record = place / f"target/door/record.{name}"
         self.libraries = place / "target/door/libraries"
         self.log = place / "target/door/check.log"
@@ -172,17 +173,19 @@ class Imitation:
         shutil.copy(DOOR, self.door)
         self.source.write_text("fn main() {}\n")
         (place / "crates.txt").write_text("verdicts:\nlink:\n")
-        (place / "target/stamp/book").write_text("1" * 64 + "\n")
-        (place / "target/rlib/book.rlib/code").write_text("of book\n")
+        (place / "crates/book/out/rlib/stamp").write_text("1" * 64)
+        (place / "crates/book/out/rlib/book.rlib/code").write_text("of book\n")
+        (place / "crates/book/out/incremental/kept").write_text("of a check of book\n")
         self.rt("exit 1")
         if program:
             shutil.copy(program, self.program)
             self.vouch()
 
     def rt(self, check, kit=KIT):
-        """A stand-in that counts how often a check was asked for."""
-        counted = f"echo >>target/asked\n{check}"
-        script(self.place / "path/rt", f"case $1 in version) echo {kit} ;; check) {counted}\n;; esac")
+        """A stand-in that counts how often a check was asked for. The check gets the crate that it was asked for in, and
+        runs in the place's own folder."""
+        counted = f"crate=${{PWD##*/}}; cd '{self.place}'; echo >>target/asked\n{check}"
+        script(self.place / "path/rt", f"case $1 in version) echo {kit} ;; run) {counted}\n;; esac")
 
     def asked(self):
         asked = self.place / "target/asked"
@@ -191,18 +194,20 @@ class Imitation:
     def vouch(self):
         """The record of a check that proved the present program from what is here."""
         def folder_hash(folder):
-            """Of a line for each file, by name: its hash and its name."""
+            """Of a line for each file, by name: its hash and its name. Of crates/ without what rt builds in it."""
             files = sorted((f"./{path.relative_to(folder)}", path) for path in folder.rglob("*") if path.is_file())
-            return sha256("".join(f"{sha256(path.read_bytes())}  {name}\n" for name, path in files).encode())
-        self.stamp.write_text("2" * 64 + "\n")
+            return sha256("".join(f"{sha256(path.read_bytes())}  {name}\n" for name, path in files
+                                  if name.split("/")[2:3] != ["out"]).encode())
+        self.stamp.write_text("2" * 64 + sha256(self.program.read_bytes()))
         self.record.parent.mkdir(exist_ok=True)
         self.record.write_text(
             f"crates {folder_hash(self.place / 'crates')}\n"
             f"crates.txt {sha256((self.place / 'crates.txt').read_bytes())}\nkit {KIT}\n"
             f"program {sha256(self.program.read_bytes())}\n")
+        book = self.place / "crates/book/out"
         self.libraries.write_text(
-            f"library book {'1' * 64} {folder_hash(self.place / 'target/rlib/book.rlib')}\n"
-            f"library {self.name} {'2' * 64} -\n")
+            f"library book {folder_hash(book / 'rlib')} {folder_hash(book / 'incremental')}\n"
+            f"library {self.name} - -\n")
 
     def list(self, *arguments, env=None, **how):
         if not arguments and self.name == "verdicts":

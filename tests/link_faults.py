@@ -317,7 +317,7 @@ def built_anew_meanwhile(folder):
 def builds(folder):
     """Each program is proved when it is asked for, and tried."""
     door = Imitation(folder / "two-programs", PROGRAM)
-    door.rt(f"[ $2 = link ] || exit 1\n{proves(LINK, 'link')}")
+    door.rt(f"[ $crate = link ] || exit 1\n{proves(LINK, 'link')}")
     link = ["--link", ROOT / "streams/sample.nts"]
     messages = expect("front door, --link, first use", door.list(*link), COMPLETE, STREAM_LISTING, STREAM_LISTING)
     expect_words("--link, first use", messages, "takes minutes", "link ")

@@ -10,12 +10,12 @@ use std::io::{self, Read, Write};
 use std::path::{Path, PathBuf};
 use std::process::{Command, Stdio};
 
-/// The environment's variable that names another program than target/bin/verdicts.
+/// The environment's variable that names another program than crates/verdicts/out/verdicts.
 pub const PROGRAM: &str = "BENCH_VERDICTS";
 
 /// The program `verdicts`, or why there is none.
 pub fn program() -> Result<PathBuf, String> {
-    let own = || Path::new(env!("CARGO_MANIFEST_DIR")).join("../target/bin/verdicts");
+    let own = || Path::new(env!("CARGO_MANIFEST_DIR")).join("../crates/verdicts/out/verdicts");
     let program = env::var_os(PROGRAM).map_or_else(own, PathBuf::from);
     if program.is_file() {
         Ok(program)

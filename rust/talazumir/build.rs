@@ -1,6 +1,6 @@
 //! Links the proved archive of the boundary. It is the one in the folder that TALAZUMIR_ARCHIVE_DIR names, taken as it
-//! is; else the one in target/staticlib, which must not be older than a source that it is made from. Times are no proof
-//! that it is made from these sources, but tests on an older one say nothing of what was changed since.
+//! is; else the one in crates/boundary/out, which must not be older than a source that it is made from. Times are no
+//! proof that it is made from these sources, but tests on an older one say nothing of what was changed since.
 
 use std::collections::BTreeSet;
 use std::path::{Path, PathBuf};
@@ -35,16 +35,15 @@ fn named(folder: &Path) -> Result<PathBuf, String> {
 
 /// The repository's own folder.
 fn own() -> Result<PathBuf, String> {
-    let remedy =
-        "run `rt staticlib boundary` in the repository's top folder, which proves the crate and writes the archive";
+    let remedy = "run `rt lib` in crates/boundary, which proves the crate and writes the archive";
     let top = Path::new(env!("CARGO_MANIFEST_DIR")).join("../..");
     let top = top.canonicalize().map_err(|error| error.to_string())?;
-    let folder = top.join("target/staticlib");
+    let folder = top.join("crates/boundary/out");
     let archive = time_of(&folder.join("libboundary.a")).map_err(|error| format!("{error}; {remedy}"))?;
     let (source, time) = youngest_source(&top).map_err(|error| format!("the archive's sources: {error}"))?;
     if time > archive {
         let source = source.strip_prefix(&top).unwrap_or(&source).display();
-        return Err(format!("target/staticlib/libboundary.a is older than {source}; {remedy}"));
+        return Err(format!("crates/boundary/out/libboundary.a is older than {source}; {remedy}"));
     }
     Ok(folder)
 }
@@ -70,14 +69,16 @@ fn youngest_source(top: &Path) -> Result<(PathBuf, SystemTime), String> {
     Ok(youngest)
 }
 
-/// The crates that a crate is made from, itself among them, by crates.txt: a line for each, NAME: DEPENDENCIES.
+/// The crates that a crate is made from, itself among them, by crates.txt: a line for each, NAME: DEPENDENCIES, where
+/// words on its kind may stand behind the name.
 fn crates_below<'a>(name: &'a str, list: &'a str) -> BTreeSet<&'a str> {
     let mut found = BTreeSet::new();
     let mut next = vec![name];
     while let Some(name) = next.pop() {
         if found.insert(name) {
             let lines = list.lines().filter_map(|line| line.split_once(':'));
-            next.extend(lines.filter(|line| line.0 == name).flat_map(|line| line.1.split_whitespace()));
+            let own = lines.filter(|line| line.0.split_whitespace().next() == Some(name));
+            next.extend(own.flat_map(|line| line.1.split_whitespace()));
         }
     }
     found

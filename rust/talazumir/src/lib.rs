@@ -1,10 +1,10 @@
 //! The proved reader and writer of Nt commands (TS 29.154, Background-Data-Transfer request and answer, and the error
 //! answers to the request) as safe Rust.
 //!
-//! The answers come from the archive that `rt staticlib boundary` proves and builds; this crate only hands over slices
-//! and arrays. `include/talazumir.h` has the table of verdict numbers, and the stack that each call takes: 52 KiB at
-//! most. The archive is the one in the repository's `target/staticlib`, or in the folder that `TALAZUMIR_ARCHIVE_DIR`
-//! names at the build.
+//! The answers come from the archive that `rt lib` in `crates/boundary` proves and builds; this crate only hands over
+//! slices and arrays. `include/talazumir.h` has the table of verdict numbers, and the stack that each call takes: 52 KiB
+//! at most. The archive is the one in the repository's `crates/boundary/out`, or in the folder that
+//! `TALAZUMIR_ARCHIVE_DIR` names at the build.
 //!
 //! ```
 //! // A header alone lacks its Session-Id (263) at octet 20.
