@@ -1,6 +1,8 @@
 // The boundary for C and Rust callers: the verdict, the record as numbers, the data of a position, the search, the
 // writer, the canonical form, the seconds between two times, and commands from a link. include/talazumir.h says the
 // same in C's terms.
+#![tactic(auto)]
+
 ghost use Rattle.std.specs.Prelude.{◌≡◌, ◌≤◌};
 ghost use Rattle.rules.specs.Walk.{most_avps};
 ghost use Rattle.rules.specs.Search.{position_of};
