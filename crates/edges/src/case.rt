@@ -1,10 +1,11 @@
 // A case: a command is put together and judged, and its line is printed.
 use crate::{notation, octets, print, text};
 use rules::limits;
+use std::io::Stdout;
 
 // What a command starts with: the header of H (01, The book and its listing), with the flags of a BTR, of a BTA or of an
 // answer with E, and none or some of the AVPs of S (01, Commands at the edges).
-#[derive(Drop)]
+#[derive(Clone, Copy)]
 pub(crate) enum Start {
     // Up to 20: no AVP.
     Request,
@@ -61,40 +62,40 @@ pub(crate) fn put_command(out: &mut [u8; 16400], start: Start, avps: &[u8]) -> u
 }
 
 // The verdict on the first `length` octets.
-pub(crate) fn judge(label: &[u8], command: [u8; 16400], length: usize) {
+pub(crate) fn judge(stdout: Stdout, label: &[u8], command: [u8; 16400], length: usize) {
     if 16400 < length {
         return;
     }
     let mut log = [0u32; limits::LOG_NUMBERS];
     let v = reader::verdict(&command[..length], &mut log);
-    print::verdict_line(label, v);
+    print::verdict_line(stdout, label, v);
 }
 
 // Octets as they are: nothing is put before them, and no length is set.
-pub(crate) fn octets(label: &[u8], text: &[u8]) {
+pub(crate) fn octets(stdout: Stdout, label: &[u8], text: &[u8]) {
     let mut out = [0u8; 16400];
     let end = notation::put(&mut out, 0, text);
-    judge(label, out, end);
+    judge(stdout, label, out, end);
 }
 
-fn judge_command(label: &[u8], start: Start, avps: &[u8]) {
+fn judge_command(stdout: Stdout, label: &[u8], start: Start, avps: &[u8]) {
     let mut out = [0u8; 16400];
     let end = put_command(&mut out, start, avps);
-    judge(label, out, end);
+    judge(stdout, label, out, end);
 }
 
-fn judge_line(start: Start, line: &[u8]) {
+fn judge_line(stdout: Stdout, start: Start, line: &[u8]) {
     let label = text::behind_spaces(line);
     let end = text::end_of(line, label, b' ');
-    judge_command(&line[label..end], start, &line[end..]);
+    judge_command(stdout, &line[label..end], start, &line[end..]);
 }
 
 // A case for each line: its label, and the AVPs behind the start.
-pub(crate) fn each(start: Start, lines: &[u8]) {
+pub(crate) fn each(stdout: Stdout, start: Start, lines: &[u8]) {
     let mut at = 0;
     while at < lines.len() {
         let end = text::end_of(lines, at, b'\n');
-        judge_line(start, &lines[at..end]);
+        judge_line(stdout, start, &lines[at..end]);
         at = end + 1;
     }
 }

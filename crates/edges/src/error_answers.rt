@@ -1,11 +1,13 @@
 // Request [1]: answers with E, by the general form of RFC 6733 clause 7.2, and by the window rule alone.
 use crate::case;
 use crate::case::Start;
+use std::io::Stdout;
 
 // 263 first, late at 32, a second one at 44, and absent; 264, 296 and 268 missing at the end, each 12 octets shorter than
 // 56; 268 and 281 exceeded. A 297 of 32 octets does not stand for 268, and may stand beside it.
-pub(crate) fn rows() {
+pub(crate) fn rows(stdout: Stdout) {
     case::each(
+        stdout,
         Start::ErrorAnswer,
         b"error_263_first M263:73 M264:68 M296:72 M268=3002
         error_263_absent M264:68 M296:72 M268=3002
@@ -23,8 +25,9 @@ pub(crate) fn rows() {
 
 // The walk is that of every command, and so are the rows of groups: a 260 at 56 that lacks 266 at its end, 76. Policies
 // ask for nothing; of a 4207 at 56 the 4205 stands at 112.
-pub(crate) fn as_every_command() {
+pub(crate) fn as_every_command(stdout: Stdout) {
     case::each(
+        stdout,
         Start::ErrorAnswer,
         b"error_277_of_0 M264:68 M296:72 M268=3002 M277=0
         error_unknown_with_m M264:68 M296:72 M268=3002 M9999:61

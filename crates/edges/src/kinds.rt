@@ -2,37 +2,38 @@
 // code that has an entry, in their order: vendor and code, whether M must be set, and the form of the data.
 use crate::print;
 use dictionary::plain;
+use std::io::Stdout;
 
-fn form(entry: u8) {
+fn form(stdout: Stdout, entry: u8) {
     if dictionary::is_group(entry) {
-        print::word(b" group");
+        print::word(stdout, b" group");
         return;
     }
     let width = dictionary::width(entry);
     if width == 0 {
-        print::word(b" any");
+        print::word(stdout, b" any");
         return;
     }
-    print::spaced(width);
+    print::spaced(stdout, width);
 }
 
-fn kind(table: &[u8; plain::PLAIN_CODES], vendor: u32, code: u32) {
+fn kind(stdout: Stdout, table: &[u8; plain::PLAIN_CODES], vendor: u32, code: u32) {
     let entry = dictionary::entry_by(table, vendor, code);
     if !dictionary::is_known(entry) {
         return;
     }
-    print::number(vendor);
-    print::spaced(code);
-    print::bit(dictionary::requires_m(entry));
-    form(entry);
-    print::end_line();
+    print::number(stdout, vendor);
+    print::spaced(stdout, code);
+    print::bit(stdout, dictionary::requires_m(entry));
+    form(stdout, entry);
+    print::end_line(stdout);
 }
 
-pub(crate) fn kinds_of(vendor: u32) {
+pub(crate) fn kinds_of(stdout: Stdout, vendor: u32) {
     let table = dictionary::plain_table();
     let mut code: u32 = 0;
     while code < 4301 {
-        kind(&table, vendor, code);
+        kind(stdout, &table, vendor, code);
         code += 1;
     }
 }

@@ -1,6 +1,8 @@
 // Runs the commands of document 01, section "Commands at the edges", that are not marked (p), and further edges of its
 // clauses, through the reader, and the codes to 4,300 of three vendors through the dictionary. A line for each case:
 // its label, number, place, Vendor-Id and code. The file `stdout` has what the documents say must come out.
+#![tactic(auto)]
+
 mod case;
 mod error_answers;
 mod exchange;
@@ -15,70 +17,73 @@ mod rows;
 mod text;
 mod walk;
 
-fn header_cases() {
-    header::lengths();
-    header::names();
-    header::flags();
+use std::io::Stdout;
+
+fn header_cases(stdout: Stdout) {
+    header::lengths(stdout);
+    header::names(stdout);
+    header::flags(stdout);
 }
 
-fn walk_cases() {
-    walk::stray_octets();
-    walk::avp_lengths();
-    walk::flags();
-    walk::transfer_request_types();
-    walk::names_and_values();
-    walk::depths();
-    walk::unread();
+fn walk_cases(stdout: Stdout) {
+    walk::stray_octets(stdout);
+    walk::avp_lengths(stdout);
+    walk::flags(stdout);
+    walk::transfer_request_types(stdout);
+    walk::names_and_values(stdout);
+    walk::depths(stdout);
+    walk::unread(stdout);
 }
 
-fn row_cases() {
-    rows::after_walk();
-    rows::session_ids();
-    rows::command_list();
-    rows::vendor_specific_application_ids();
-    rows::groups();
-    rows::list_order();
+fn row_cases(stdout: Stdout) {
+    rows::after_walk(stdout);
+    rows::session_ids(stdout);
+    rows::command_list(stdout);
+    rows::vendor_specific_application_ids(stdout);
+    rows::groups(stdout);
+    rows::list_order(stdout);
 }
 
-fn exchange_cases() {
-    exchange::first_requests();
-    exchange::totals();
-    exchange::later_requests();
-    exchange::results();
-    exchange::policy_counts();
-    exchange::policies();
-    exchange::windows();
+fn exchange_cases(stdout: Stdout) {
+    exchange::first_requests(stdout);
+    exchange::totals(stdout);
+    exchange::later_requests(stdout);
+    exchange::results(stdout);
+    exchange::policy_counts(stdout);
+    exchange::policies(stdout);
+    exchange::windows(stdout);
 }
 
-fn error_answer_cases() {
-    error_answers::rows();
-    error_answers::as_every_command();
+fn error_answer_cases(stdout: Stdout) {
+    error_answers::rows(stdout);
+    error_answers::as_every_command(stdout);
 }
 
-fn records() {
-    record::of_s();
-    record::of_flags();
-    record::of_count_300();
-    record::of_policies();
-    record::of_refusal();
+fn records(stdout: Stdout) {
+    record::of_s(stdout);
+    record::of_flags(stdout);
+    record::of_count_300(stdout);
+    record::of_policies(stdout);
+    record::of_refusal(stdout);
 }
 
 // Names without vendor, with a vendor that has no entry, and of 3GPP.
-fn dictionary_kinds() {
-    kinds::kinds_of(0);
-    kinds::kinds_of(10414);
-    kinds::kinds_of(10415);
+fn dictionary_kinds(stdout: Stdout) {
+    kinds::kinds_of(stdout, 0);
+    kinds::kinds_of(stdout, 10414);
+    kinds::kinds_of(stdout, 10415);
 }
 
-fn main() {
-    limits::values();
-    limits::counts();
-    limits::lengths();
-    header_cases();
-    walk_cases();
-    row_cases();
-    exchange_cases();
-    error_answer_cases();
-    records();
-    dictionary_kinds();
+fn main(rt: HostRuntime) {
+    let stdout = rt.stdout();
+    limits::values(stdout);
+    limits::counts(stdout);
+    limits::lengths(stdout);
+    header_cases(stdout);
+    walk_cases(stdout);
+    row_cases(stdout);
+    exchange_cases(stdout);
+    error_answer_cases(stdout);
+    records(stdout);
+    dictionary_kinds(stdout);
 }

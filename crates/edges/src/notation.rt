@@ -9,7 +9,7 @@ ghost use Rattle.std.specs.Prelude.{◌<◌};
 use crate::octets;
 
 // What is being written: the flags and code of an AVP, its data as a number or as octets, or octets that are no AVP.
-#[derive(Drop)]
+#[derive(Clone, Copy)]
 enum Part {
     Name,
     Number,
@@ -19,7 +19,7 @@ enum Part {
 
 // How far the writing is: `end` is the place behind the last octet, `avp` the first octet of the AVP whose data is
 // being written, `number` what the digits so far stand for, and `depth` the number of open groups.
-#[derive(Drop)]
+#[derive(Clone, Copy)]
 struct Draft {
     end: usize,
     avp: usize,

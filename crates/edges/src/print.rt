@@ -1,53 +1,53 @@
 // Lines on standard output: words and numbers with a space between them.
-use libc::STDOUT_FILENO;
 use rules::Verdict;
+use std::io::Stdout;
 
-pub(crate) fn word(text: &[u8]) {
-    io::write_all(STDOUT_FILENO, text);
+pub(crate) fn word(stdout: Stdout, text: &[u8]) {
+    let _ = stdout.write_all(text);
 }
 
-pub(crate) fn number(n: u32) {
-    io::print_decimal(STDOUT_FILENO, n as u64);
+pub(crate) fn number(stdout: Stdout, n: u32) {
+    let _ = print!(stdout; "{n}");
 }
 
-pub(crate) fn spaced(n: u32) {
-    word(b" ");
-    number(n);
+pub(crate) fn spaced(stdout: Stdout, n: u32) {
+    word(stdout, b" ");
+    number(stdout, n);
 }
 
-pub(crate) fn position(n: usize) {
-    word(b" ");
-    io::print_decimal(STDOUT_FILENO, n as u64);
+pub(crate) fn position(stdout: Stdout, n: usize) {
+    word(stdout, b" ");
+    let _ = print!(stdout; "{n}");
 }
 
 // The number of octets, and each as a number.
-pub(crate) fn octets(data: &[u8]) {
-    position(data.len());
+pub(crate) fn octets(stdout: Stdout, data: &[u8]) {
+    position(stdout, data.len());
     let mut i = 0;
     while i < data.len() {
-        position(data[i] as usize);
+        position(stdout, data[i] as usize);
         i += 1;
     }
 }
 
-pub(crate) fn bit(b: bool) {
+pub(crate) fn bit(stdout: Stdout, b: bool) {
     if b {
-        word(b" 1");
+        word(stdout, b" 1");
     } else {
-        word(b" 0");
+        word(stdout, b" 0");
     }
 }
 
-pub(crate) fn end_line() {
-    word(b"\n");
+pub(crate) fn end_line(stdout: Stdout) {
+    word(stdout, b"\n");
 }
 
 // A case: its label, then number, place, Vendor-Id and code.
-pub(crate) fn verdict_line(label: &[u8], v: Verdict) {
-    word(label);
-    spaced(v.number);
-    spaced(v.place);
-    spaced(v.vendor);
-    spaced(v.code);
-    end_line();
+pub(crate) fn verdict_line(stdout: Stdout, label: &[u8], v: Verdict) {
+    word(stdout, label);
+    spaced(stdout, v.number);
+    spaced(stdout, v.place);
+    spaced(stdout, v.vendor);
+    spaced(stdout, v.code);
+    end_line(stdout);
 }

@@ -1,7 +1,7 @@
 -- The listing of a stream (docs/rules.md, Listing of a stream), piece by piece: a line for each command as soon as it
 -- is whole, with its ordinal, its offset in the stream and its verdict; `stopped` with number and place where the run
 -- stops.
-use Rattle.std.specs.Prelude.{ℕ, zero, suc, ◌+◌, ◌%◌, ◌^◌, Bool, cond, not, ◌||◌, List, [], ◌∷◌, ◌++◌, length, drop, ◌==◌}
+use Rattle.std.specs.Prelude.{ℕ, zero, suc, ◌+◌, ◌%◌, ◌^◌, Bool, cond, not, ◌||◌, List, [], ◌++◌, length, drop, ◌==◌}
 use Rattle.rules.specs.Lines.{command_line, cut_line, end_line, stopped_line}
 use Rattle.rules.specs.Book.{acceptance}
 use Rattle.fragments.specs.declared.State.{State}

@@ -1,5 +1,6 @@
 -- What the functions of `link` promise. No contract can say which octets were read, or that written octets arrive.
-use Rattle.std.specs.Prelude.{◌≡◌, ℕ, ◌≤◌, min, Bool, true, cond, not, ◌||◌, List, [], length, take, ℤ, pos, negsuc, ◌==◌}
+use Rattle.std.specs.Prelude.{◌≡◌, ℕ, ◌≤◌, min, Bool, true, cond, not, ◌||◌, List, [], length, take, Result, Ok, Err, ◌==◌}
+use Rattle.std.specs.declared.io.Error.{Error}
 use Rattle.fragments.specs.Link.{buffer_after}
 use Rattle.lines.specs.Promise.{Put, PutWithin, line_room}
 use Rattle.link.specs.declared.Tally.{Tally}
@@ -15,10 +16,10 @@ piece_room = 4096
 abbrev pub text_room : ℕ
 text_room = 393216
 
--- what a read into this room answered: below 0 it failed; where it gave no octet, the input has ended
-unfoldable pub input_by : ℤ → ℕ → Input
-input_by (pos n) room = cond (min n room == 0) End (Octets (min n room))
-input_by (negsuc n) room = Failed
+-- what a read into this room answered: an error, and it failed; where it gave no octet, the input has ended
+unfoldable pub input_by : Result ℕ Error → ℕ → Input
+input_by (Ok n) room = cond (min n room == 0) End (Octets (min n room))
+input_by (Err e) room = Failed
 
 -- octets that lie in this room
 abbrev pub InRoom : ℕ → Input → Type 0

@@ -1,5 +1,7 @@
 // Prints the listing of the stream of commands on standard input (02, [7]), of any length, in fixed memory. It only
 // moves octets: what is printed for a piece of the stream, and at its end, the functions below promise.
+#![tactic(auto)]
+
 ghost use Rattle.std.specs.Prelude.{◌≡◌, ◌+◌, ◌≤◌, length};
 ghost use Rattle.rules.specs.Book.{acceptance};
 ghost use Rattle.fragments.specs.declared.Progress.TheVariants.{Unfinished};
@@ -8,9 +10,9 @@ ghost use Rattle.link.specs.Listing.{none_yet, line_by, tally_by, last_line};
 ghost use Rattle.link.specs.Promise.{input_by, InPiece, LineListed, PieceListed, Printed, is_last, piece_room, text_room};
 
 use fragments::{Progress, State};
-use libc::{STDERR_FILENO, STDIN_FILENO, STDOUT_FILENO};
 use rules::{Verdict, limits};
-use std::num;
+use std::io::Read;
+use std::{io, num};
 
 // The octets of a piece that is read, and the room in which its lines fit: each line takes an octet of it at least.
 const PIECE_ROOM: usize = 4096;
@@ -18,7 +20,7 @@ const PIECE_ROOM: usize = 4096;
 const TEXT_ROOM: usize = 393216;
 
 // Commands and acceptances so far, the offset of the command that is being read, and the reader's state.
-#[derive(Drop)]
+#[derive(Clone, Copy)]
 struct Tally {
     commands: u64,
     accepted: u64,
@@ -35,7 +37,7 @@ struct Line {
 }
 
 // What a read gave: this many octets, the end of the input, or nothing, since it failed.
-#[derive(Drop)]
+#[derive(Clone, Copy)]
 enum Input {
     Octets(usize),
     End,
@@ -168,13 +170,13 @@ fn list_piece(
 }
 
 // What a read answered: only 0 is the end of the input. A read that a signal broke off counts as failed.
-fn input_of(answer: isize, piece: &[u8]) -> Input
+fn input_of(answer: io::Result<usize>, piece: &[u8]) -> Input
     ensures { result ≡ input_by answer (length piece.now) }
 {
-    if answer < 0 {
+    let Ok(given) = answer else {
         return Input::Failed;
-    }
-    let count = io::count(answer, piece);
+    };
+    let count = given.min(piece.len());
     if count == 0 {
         return Input::End;
     }
@@ -215,13 +217,13 @@ fn is_last(input: Input, written: bool, tally: Tally) -> bool
 }
 
 // Says on standard error what failed, if anything did.
-fn complain(input: Input, written: bool) {
+fn complain(rt: &HostRuntime, input: Input, written: bool) {
     if !written {
-        io::write_all(STDERR_FILENO, b"link: writing failed\n");
+        let _ = eprintln!(rt; "link: writing failed");
         return;
     }
     if let Input::Failed = input {
-        io::write_all(STDERR_FILENO, b"link: reading failed\n");
+        let _ = eprintln!(rt; "link: reading failed");
     }
 }
 
@@ -255,7 +257,7 @@ fn put_printed(
 
 // The counter bounds the reads: after 2^64 - 1 of them it ends without a last line. A listing that could not be written
 // whole lacks at least the end of its last line.
-fn main() {
+fn main(rt: HostRuntime) {
     let mut buffer = [0u8; limits::LONGEST_COMMAND];
     let mut log = [0u32; limits::LOG_NUMBERS];
     let mut piece = [0u8; PIECE_ROOM];
@@ -263,13 +265,13 @@ fn main() {
     let mut tally = none_yet();
     let mut reads: u64 = u64::MAX;
     while 0 < reads {
-        let answer = libc::read(STDIN_FILENO, &mut piece);
+        let answer = rt.stdin().read(&mut piece);
         let input = input_of(answer, &piece);
         let line = put_printed(input, tally, &piece, &mut buffer, &mut log, &mut out);
-        let written = io::write_all(STDOUT_FILENO, &out[..line.end]);
+        let written = rt.write_all(&out[..line.end]).is_ok();
         tally = line.tally;
         if is_last(input, written, tally) {
-            complain(input, written);
+            complain(&rt, input, written);
             return;
         }
         reads -= 1;

@@ -6,8 +6,8 @@ use Rattle.verdicts.specs.declared.Input.TheVariants.{Octets, Failed}
 
 -- octets are given back only where they fill a buffer of this room, or where the last read gave none
 abbrev pub ReadWhole : ℕ → Input → Type 0
-ReadWhole room (Octets count last) = (count ≤ room) × ((count ≡ room) ⊎ (last ≡ 0))
-ReadWhole room Failed = Unit
+ReadWhole space (Octets count last) = (count ≤ space) × ((count ≡ space) ⊎ (last ≡ 0))
+ReadWhole space Failed = Unit
 
 -- what is put for an input: the listing of the octets that were read; after a read that failed nothing
 abbrev pub PrintedBy : Input → List ℕ → List ℕ → ℕ → List ℕ → Type 0

@@ -1,10 +1,12 @@
 // Prints the listing of the book on standard input (01, The book and its listing). It only moves octets: what the
 // listing is, the crate `book` settles.
+#![tactic(auto)]
+
 ghost use Rattle.std.specs.Prelude.{length};
 ghost use Rattle.verdicts.specs.Input.{ReadWhole, Printed};
 
-use libc::{STDERR_FILENO, STDIN_FILENO, STDOUT_FILENO};
 use rules::limits;
+use std::io::{Read, Stdin};
 
 // What came in: this many octets, with how many the last read gave; or a read that failed.
 #[derive(Drop)]
@@ -15,17 +17,16 @@ enum Input {
 
 // Reads until the buffer is full or a read gives nothing, which is the end of the input, in pieces of any size. A read
 // that a signal broke off counts as failed.
-fn read_input(buffer: &mut [u8]) -> Input
+fn read_input(mut stdin: Stdin, buffer: &mut [u8]) -> Input
     ensures { ReadWhole (length buffer.old) result }
 {
     let mut count: usize = 0;
     let mut last: usize = 1;
     while count < buffer.len() {
-        let answer = libc::read(STDIN_FILENO, &mut buffer[count..]);
-        if answer < 0 {
+        let Ok(given) = stdin.read(&mut buffer[count..]) else {
             return Input::Failed;
-        }
-        last = io::count(answer, &buffer[count..]);
+        };
+        last = given;
         if last == 0 {
             return Input::Octets { count, last };
         }
@@ -49,17 +50,17 @@ fn put_printed(input: Input, buffer: &[u8], out: &mut [u8; limits::LISTING_ROOM]
 // The buffer has room for one octet more than the longest book, so that a longer one is seen to be longer. Every
 // listing has octets, so none says that reading failed. A listing that could not be written whole lacks at least the
 // end of its last line, and standard error says so.
-fn main() {
+fn main(rt: HostRuntime) {
     let mut buffer = [0u8; limits::LONGEST_BOOK + 1];
     let mut out = [0u8; limits::LISTING_ROOM];
-    let input = read_input(&mut buffer);
+    let input = read_input(rt.stdin(), &mut buffer);
     let length = put_printed(input, &buffer, &mut out);
     if length == 0 {
-        io::write_all(STDERR_FILENO, b"verdicts: reading failed\n");
+        let _ = eprintln!(rt; "verdicts: reading failed");
         return;
     }
-    if io::write_all(STDOUT_FILENO, &out[..length]) {
+    if rt.write_all(&out[..length]).is_ok() {
         return;
     }
-    io::write_all(STDERR_FILENO, b"verdicts: writing failed\n");
+    let _ = eprintln!(rt; "verdicts: writing failed");
 }
