@@ -1,5 +1,5 @@
 // A case: a command is put together and judged, and its line is printed.
-use crate::{notation, octets, print, text};
+use crate::{notation, print, puts, text};
 use rules::limits;
 use std::io::Stdout;
 
@@ -21,7 +21,7 @@ pub(crate) enum Start {
 
 fn put_header(out: &mut [u8; 16400], flags: u8) -> usize {
     let end = notation::put(out, 0, b"#0100000000800073010000840000000100000002");
-    octets::put(out, 4, flags);
+    puts::put(out, 4, flags);
     end
 }
 
@@ -57,7 +57,7 @@ fn put_start(out: &mut [u8; 16400], start: Start) -> usize {
 pub(crate) fn put_command(out: &mut [u8; 16400], start: Start, avps: &[u8]) -> usize {
     let next = put_start(out, start);
     let end = notation::put(out, next, avps);
-    octets::put_length(out, 1, 0, end);
+    puts::put_length(out, 1, 0, end);
     end
 }
 

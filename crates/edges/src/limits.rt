@@ -1,6 +1,6 @@
 // 01, Commands at the edges, the cases that are not marked (p).
 use crate::case::Start;
-use crate::{case, notation, octets};
+use crate::{case, notation, puts};
 use std::io::Stdout;
 
 // S with 4203 = 2: 5004 at 100. Window 10 to 10: 5004, at its 4205; 10 to 11: none. The BTR with the window meets the
@@ -36,7 +36,7 @@ fn many_avps(stdout: Stdout, label: &[u8], last: &[u8]) {
     let first = case::put_command(&mut out, Start::S, b"");
     let next = put_route_records(&mut out, first, 245);
     let end = notation::put(&mut out, next, last);
-    octets::put_length(&mut out, 1, 0, end);
+    puts::put_length(&mut out, 1, 0, end);
     case::judge(stdout, label, out, end);
 }
 
@@ -54,8 +54,8 @@ fn long_command(stdout: Stdout, label: &[u8], length: usize) {
     let mut out = [0u8; 16400];
     let avp = case::put_command(&mut out, Start::S, b"");
     let at_length = notation::put(&mut out, avp, b"#0000270F00");
-    octets::put_length(&mut out, at_length, avp, length);
-    octets::put_length(&mut out, 1, 0, length);
+    puts::put_length(&mut out, at_length, avp, length);
+    puts::put_length(&mut out, 1, 0, length);
     case::judge(stdout, label, out, length);
 }
 

@@ -5,17 +5,17 @@
 
 mod case;
 mod error_answers;
-mod exchange;
+mod exchanges;
 mod header;
 mod kinds;
 mod limits;
 mod notation;
-mod octets;
 mod print;
+mod puts;
 mod record;
 mod rows;
 mod text;
-mod walk;
+mod walks;
 
 use std::io::Stdout;
 
@@ -26,13 +26,13 @@ fn header_cases(stdout: Stdout) {
 }
 
 fn walk_cases(stdout: Stdout) {
-    walk::stray_octets(stdout);
-    walk::avp_lengths(stdout);
-    walk::flags(stdout);
-    walk::transfer_request_types(stdout);
-    walk::names_and_values(stdout);
-    walk::depths(stdout);
-    walk::unread(stdout);
+    walks::stray_octets(stdout);
+    walks::avp_lengths(stdout);
+    walks::flags(stdout);
+    walks::transfer_request_types(stdout);
+    walks::names_and_values(stdout);
+    walks::depths(stdout);
+    walks::unread(stdout);
 }
 
 fn row_cases(stdout: Stdout) {
@@ -45,13 +45,13 @@ fn row_cases(stdout: Stdout) {
 }
 
 fn exchange_cases(stdout: Stdout) {
-    exchange::first_requests(stdout);
-    exchange::totals(stdout);
-    exchange::later_requests(stdout);
-    exchange::results(stdout);
-    exchange::policy_counts(stdout);
-    exchange::policies(stdout);
-    exchange::windows(stdout);
+    exchanges::first_requests(stdout);
+    exchanges::totals(stdout);
+    exchanges::later_requests(stdout);
+    exchanges::results(stdout);
+    exchanges::policy_counts(stdout);
+    exchanges::policies(stdout);
+    exchanges::windows(stdout);
 }
 
 fn error_answer_cases(stdout: Stdout) {

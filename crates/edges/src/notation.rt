@@ -6,7 +6,7 @@
 // `#` and octets in hexadecimal are those octets and no AVP. A space or a parenthesis ends what stands before it.
 ghost use Rattle.std.specs.Prelude.{◌<◌};
 
-use crate::octets;
+use crate::puts;
 
 // What is being written: the flags and code of an AVP, its data as a number or as octets, or octets that are no AVP.
 #[derive(Clone, Copy)]
@@ -78,13 +78,13 @@ fn begin_octets(d: Draft) -> Draft {
 // The header of an AVP, with its length still to come.
 fn put_header(out: &mut [u8; 16400], d: Draft) -> usize {
     let flags = d.flags;
-    let at_flags = octets::put4(out, d.end, d.number);
-    let at_length = octets::put(out, at_flags, flags);
-    let behind = octets::put3(out, at_length, 0);
+    let at_flags = puts::put4(out, d.end, d.number);
+    let at_length = puts::put(out, at_flags, flags);
+    let behind = puts::put3(out, at_length, 0);
     if flags < 128 {
         return behind;
     }
-    octets::put4(out, behind, 10415)
+    puts::put4(out, behind, 10415)
 }
 
 fn begin_data(out: &mut [u8; 16400], d: Draft, part: Part, number: u64) -> Draft {
@@ -102,9 +102,9 @@ fn begin_data(out: &mut [u8; 16400], d: Draft, part: Part, number: u64) -> Draft
 fn end_data(out: &mut [u8; 16400], d: Draft, end: usize) -> Draft {
     let avp = d.avp;
     if avp < 16400 {
-        octets::put_length(out, avp + 5, avp, end);
+        puts::put_length(out, avp + 5, avp, end);
     }
-    let behind = octets::put_padding(out, end);
+    let behind = puts::put_padding(out, end);
     next_avp(behind, d.depth)
 }
 
@@ -115,7 +115,7 @@ fn end_part(out: &mut [u8; 16400], d: Draft) -> Draft {
         Part::Octets => next_avp(d.end, d.depth),
         Part::Data => end_data(out, d, d.end),
         Part::Number => {
-            let end = octets::put4(out, d.end, d.number);
+            let end = puts::put4(out, d.end, d.number);
             end_data(out, d, end)
         }
     }
@@ -142,7 +142,7 @@ fn close_group(out: &mut [u8; 16400], groups: &mut [usize; 8], d: Draft) -> Draf
     }
     let group = groups[depth - 1];
     if group < 16400 {
-        octets::put_length(out, group + 5, group, e.end);
+        puts::put_length(out, group + 5, group, e.end);
     }
     next_avp(e.end, depth - 1)
 }
@@ -167,7 +167,7 @@ fn hexadecimal_digit(out: &mut [u8; 16400], d: Draft, digit: u8) -> Draft {
     if number < 256 {
         return with_number(d, d.end, number);
     }
-    let end = octets::put(out, d.end, (number % 256) as u8);
+    let end = puts::put(out, d.end, (number % 256) as u8);
     with_number(d, end, 1)
 }
 

@@ -3,7 +3,7 @@
 ghost use Rattle.std.specs.Prelude.{◌≤◌};
 
 use crate::case::Start;
-use crate::{case, octets, print};
+use crate::{case, print, puts};
 use rules::{Found, Reading, Record};
 use std::io::Stdout;
 
@@ -116,7 +116,7 @@ pub(crate) fn of_s(stdout: Stdout) {
 pub(crate) fn of_flags(stdout: Stdout) {
     let mut out = [0u8; 16400];
     case::put_command(&mut out, Start::S, b"MP282:72 281:65");
-    octets::put(&mut out, 4, 0xd0);
+    puts::put(&mut out, 4, 0xd0);
     let reading = read(out, 184);
     let record = reading.record;
     record_line(stdout, record);
