@@ -1,5 +1,7 @@
 -- The laws of the definitions, by topic. They name no code.
--- computed: the writer's drafts and octets at the edges
+-- computed: commands at the edges, answers with E, and the writer's drafts and octets at the edges
+pub mod Edges
+pub mod ErrorEdges
 pub mod WriterEdges
 pub mod Octets
 pub mod Differences
@@ -18,5 +20,5 @@ pub mod Searches
 pub mod BookLines
 -- the user's demands as theorems over the definitions
 pub mod demands
--- the octets of a well_formed draft, for the writer
+-- the octets of a well-formed draft, for the writer
 pub mod Sizes

@@ -1,26 +1,21 @@
 -- What request [1] claims of answers with E (proofs/demands/ErrorAnswers), and such answers, with commands of the flags
--- beside theirs, and their verdicts, computed. xs are the AVPs of the command's walk.
-use Rattle.std.specs.Prelude.{◌≡◌, refl, Bool, true, false, cond, List, [], ◌∷◌, ◌++◌, ℕ, length}
+-- beside theirs, and their verdicts, which are computed in proofs/ErrorEdges. xs are the AVPs of the command's walk.
+use Rattle.std.specs.Prelude.{◌≡◌, Bool, true, false, cond, List, [], ◌∷◌, ◌++◌, ℕ, length}
 use Rattle.rules.specs.declared.Avp.{Avp}
 use Rattle.rules.specs.declared.Outcome.TheVariants.{Pass}
 use Rattle.rules.specs.declared.Admission.{Admission}
 use Rattle.rules.specs.declared.Admission.TheVariants.{ByRow, NoRow}
 use Rattle.rules.specs.declared.Grammar.TheVariants.{Request, Answer, ErrorAnswer}
 use Rattle.rules.specs.declared.ExchangeRules.TheVariants.{OfRequest, OfAnswer, WindowsAlone}
-use Rattle.rules.specs.Octets.{octets, number_at, padded}
+use Rattle.rules.specs.Octets.{octets}
 use Rattle.rules.specs.Verdict.{refused}
-use Rattle.rules.specs.Header.{vendor_3gpp, application_nt, command_flags, is_request, is_proxiable, is_error, length_outcome, application_outcome, flags_outcome, header_outcome}
-use Rattle.rules.specs.Avp.{avp_at}
-use Rattle.rules.specs.Dictionary.{Entry, dictionary, find}
-use Rattle.rules.specs.Rows.{rows_of, admits_others}
-use Rattle.rules.specs.Walk.{whole, framing, wrong_flags, unsupported, wrong_width, wrong_value, too_deep, contents, checked, walk_avp, walk_list}
-use Rattle.rules.specs.RowChecks.{admission_from, admission, member_outcome, missing_from, members_outcome, members_at, list_outcome, groups_outcome, rows_outcome}
-use Rattle.rules.specs.Times.{moment, is_before}
-use Rattle.rules.specs.Exchange.{result_outcome, policies_outcome, policies_at, answer_outcome, window_in, each_window, exchange_by}
-use Rattle.rules.specs.Search.{positions_from}
-use Rattle.rules.specs.Command.{rules_by, command_rules, walk_of, lists_outcome, command_outcome, command_verdict}
+use Rattle.rules.specs.Header.{vendor_3gpp, application_nt, command_flags, is_request, is_proxiable, is_error, length_outcome, application_outcome, header_outcome}
+use Rattle.rules.specs.Dictionary.{Entry, dictionary}
+use Rattle.rules.specs.Walk.{whole}
+use Rattle.rules.specs.RowChecks.{admission, list_outcome, groups_outcome}
+use Rattle.rules.specs.Command.{command_rules, walk_of}
 use Rattle.rules.specs.Windows.{AllRight}
-use Rattle.rules.specs.Edges.{header, avp, avp_of_3gpp, letter, vendor_id, answer_begins, window_of, policy_of, proxy_of, Case, case, answers, verdicts}
+use Rattle.rules.specs.Edges.{header, avp, avp_of_3gpp, letter, vendor_id, answer_begins, window_of, policy_of, proxy_of, Case, case}
 
 -- ---- what is claimed
 
@@ -59,7 +54,7 @@ pub record MeetsGeneralForm (c : List ℕ) (xs : List Avp) : Type 0 where
   pub groups : groups_outcome dictionary xs ≡ Pass
   pub windows : AllRight c xs
 
--- ---- such answers, computed
+-- ---- such answers
 
 -- a command of this length, with these command flags
 unfoldable pub with_flags : ℕ → ℕ → List ℕ → List ℕ
@@ -162,12 +157,6 @@ unfoldable pub codes_with_row : List Entry → List ℕ
 codes_with_row [] = []
 codes_with_row (e ∷ es) = cond (has_row e) (e.code ∷ codes_with_row es) (codes_with_row es)
 
--- these ten; every other name is one of the others, in any number
-pub rows_of_general_form : codes_with_row dictionary
-    ≡ (268 ∷ 278 ∷ 263 ∷ 264 ∷ 296 ∷ 279 ∷ 281 ∷ 294 ∷ 297 ∷ 284 ∷ [])
-unfolding codes_with_row dictionary rows_of admission_from
-rows_of_general_form = refl
-
 -- what request [1] leaves as it is
 unfoldable pub unmoved : List Case
 unmoved =
@@ -203,14 +192,3 @@ unmoved =
     ∷ case (with_flags 0xD0 88 answer_begins) 5005 88 0 283
     ∷ case (with_flags 0xC0 44 (session ++ session)) 5009 32 0 263
     ∷ []
-
--- each has its answer
-computed : (verdicts erred ≡ answers erred) × (verdicts unmoved ≡ answers unmoved)
-unfolding verdicts answers case header avp avp_of_3gpp vendor_id answer_begins window_of policy_of proxy_of with_flags session host realm result three state message reporter failed experimental erred unmoved octets number_at padded length_outcome application_outcome flags_outcome header_outcome avp_at rows_of admits_others dictionary find framing wrong_flags unsupported wrong_width wrong_value too_deep contents checked walk_avp walk_list admission_from member_outcome missing_from members_outcome members_at groups_outcome rows_outcome positions_from result_outcome policies_outcome policies_at answer_outcome moment is_before window_in each_window exchange_by rules_by walk_of lists_outcome command_outcome command_verdict
-computed = (refl, refl)
-
-pub error_edges : verdicts erred ≡ answers erred
-error_edges = computed.0
-
-pub unmoved_edges : verdicts unmoved ≡ answers unmoved
-unmoved_edges = computed.1

@@ -39,6 +39,6 @@ pub mod Canonical
 -- The book and its listing: the lines, and the whole
 pub mod Lines
 pub mod Book
--- Commands at the edges, computed; and what request [1] claims of answers with E, with such answers computed
+-- Commands at the edges; and what request [1] claims of answers with E, with such answers
 pub mod Edges
 pub mod ErrorAnswers

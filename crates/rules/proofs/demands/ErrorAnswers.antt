@@ -117,7 +117,7 @@ module _ (c : List ℕ) (is : IsErrorAnswer c) where
   -- by the window rule: such an answer is accepted exactly if it meets them, whatever P and T.
   -- Carried by request_1_flags, request_1_rules, demand_2_accepted, passed_command (rules/proofs/Commands),
   -- request_5_accepted and pass_all_right (Windows).
-  -- Which rows the general form has, the computed answers say (rules/specs/ErrorAnswers).
+  -- Which rows the general form has, the computed answers say (rules/proofs/ErrorEdges).
   -- Ruled out: a reader that judges such an answer by the rows of an answer without E; one that lets its windows pass.
   pub request_1_accepted : AcceptedCommand c ↔ ((xs : List Avp) × MeetsGeneralForm c xs)
   request_1_accepted = (meets_form, λ m. accepts m.0 m.1)
