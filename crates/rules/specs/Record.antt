@@ -1,5 +1,5 @@
 -- 01, The record: the record of an accepted command, the empty record, data of a position, and the search.
-use Rattle.std.specs.Prelude.{◌≡◌, ℕ, ◌+◌, ◌-◌, ◌<◌, min, List, ◌++◌, Bool, cond, ◌&&◌, length, take, drop, replicate, ltb, leb}
+use Rattle.std.specs.Prelude.{◌≡◌, ℕ, ◌-◌, ◌<◌, min, List, ◌++◌, Bool, cond, ◌&&◌, length, take, drop, replicate, ltb, leb}
 use Rattle.rules.specs.declared.Avp.{Avp}
 use Rattle.rules.specs.declared.Record.{Record}
 use Rattle.rules.specs.declared.Reading.{Reading}

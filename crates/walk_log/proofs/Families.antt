@@ -1,8 +1,8 @@
 -- Laws of families: the descendants of an AVP where more AVPs follow, and what a log is given of AVPs in walk order.
-use mathlib.Core.Path.{◌≡◌, refl, sym, ap, ◌∙◌}
+use mathlib.Core.Path.{◌≡◌, refl, ap}
 use mathlib.Core.Bool.{Bool, true, false, cond}
 use mathlib.Core.List.{List, [], ◌∷◌, ◌++◌}
-use Prim.Native.Nat.{ℕ, zero, suc, ◌+◌, ◌^◌, ◌≤◌, ◌<◌, min}
+use Prim.Native.Nat.{ℕ, suc, ◌+◌, ◌^◌, ◌≤◌, ◌<◌, min}
 use native.Mathlib.Nat.{add-zero}
 use native.Mathlib.Omega.{arith}
 use borrow.Author.Tests.{lt-ltb, le-ltb}
@@ -12,7 +12,7 @@ use Rattle.rules.specs.declared.Avp.{Avp}
 use Rattle.rules.specs.Avp.{end_of}
 use Rattle.walk_log.specs.Log.{Logged, avp_of, logged_of, avps_from, avps_in}
 use Rattle.walk_log.specs.Families.{deeper, none_logged, logged_from, Keeps}
-use Rattle.walk_log.proofs.Kept.{Fits, AllFit}
+use Rattle.walk_log.proofs.Kept.{AllFit}
 
 -- all AVPs are at least so deep
 abbrev pub Floor : ℕ → List Avp → Type 0

@@ -6,11 +6,11 @@ use Prim.Native.Nat.{ℕ, zero, suc, ◌+◌, ◌-◌, ◌*◌, ◌^◌, ◌≤�
 use native.Mathlib.Nat.{add-zero}
 use native.Mathlib.Omega.{arith}
 use lib.Dec.{eqb, ltb, leb}
-use lib.ListN.{length, get_or, set, take, drop, length-set}
+use lib.ListN.{length, get_or, set, take, drop}
 use lib.Seq.{sets, sets-eq, set_comm, length-sets, get_or-append-add, get_or-set_other, length-take-le}
 use Rattle.rules.specs.declared.Avp.{Avp}
 use Rattle.rules.specs.Avp.{end_of}
-use Rattle.walk_log.specs.Log.{Logged, bit, numbers_at, fits_log, put_avp, put_family, put_logged, put_all, avp_from, avp_of, entry_at, after_at, logged_of, avps_from, avps_in}
+use Rattle.walk_log.specs.Log.{Logged, bit, numbers_at, fits_log, put_avp, put_family, put_logged, put_all, logged_of}
 use Rattle.walk_log.specs.Families.{none_logged, Keeps}
 use Rattle.walk_log.proofs.Log.{avp_of_in, entry_at_in, after_at_in, put_avp_in, put_family_in}
 

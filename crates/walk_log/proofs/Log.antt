@@ -1,17 +1,16 @@
 -- Laws of a log: what a position holds, and the AVPs one by one.
 use mathlib.Core.Path.{◌≡◌, refl, sym, ap, ◌∙◌}
-use mathlib.Core.Bool.{Bool, true, false, ◌&&◌}
-use mathlib.Core.List.{List, [], ◌∷◌}
+use mathlib.Core.List.{List, ◌∷◌}
 use Prim.Native.Nat.{ℕ, zero, suc, ◌+◌, ◌-◌, ◌*◌, ◌^◌, ◌≤◌, ◌<◌, min, max}
 use native.Mathlib.Nat.{add-zero}
 use native.Mathlib.Numerals.{add-one}
 use native.Mathlib.Omega.{arith}
 use borrow.Author.Tests.{lt-ltb, le-ltb, le-leb, lt-leb}
 use lib.Dec.{eqb}
-use lib.ListN.{length, get_or, set, drop, drop_of_length-le}
+use lib.ListN.{length, get_or, set, drop}
 use lib.Seq.{get_or-drop}
 use Rattle.rules.specs.declared.Avp.{Avp}
-use Rattle.rules.specs.Avp.{named, end_of}
+use Rattle.rules.specs.Avp.{end_of}
 use Rattle.rules.specs.Search.{blank, avp_in}
 use Rattle.walk_log.specs.Log.{bit, numbers_at, put_avp, put_family, avp_from, avp_of, entry_at, after_at, avps_from, avps_in}
 

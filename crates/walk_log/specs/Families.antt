@@ -1,6 +1,6 @@
 -- The AVPs of a walk as families, by their depths alone: an AVP, then its descendants, which are the AVPs right behind
 -- it that are deeper.
-use Rattle.std.specs.Prelude.{◌≡◌, ℕ, zero, suc, ◌+◌, ◌<◌, List, [], ◌∷◌, ◌++◌, cond, ltb, length, get_or}
+use Rattle.std.specs.Prelude.{◌≡◌, ℕ, suc, ◌+◌, ◌<◌, List, [], ◌∷◌, ◌++◌, cond, ltb, length, get_or}
 use Rattle.rules.specs.declared.Avp.{Avp}
 use Rattle.rules.specs.Search.{blank}
 use Rattle.walk_log.specs.Log.{Logged, logged_of}

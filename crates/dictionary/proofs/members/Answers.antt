@@ -1,5 +1,4 @@
 -- `dictionary::members` meets its contract: an arm knows the code of a group, and `_` that it is no group's.
-use borrow.Author.Rules.{rules}
 use Rattle.rules.specs.Dictionary.{dictionary}
 use Rattle.rules.proofs.Outcomes.{answers}
 use Rattle.dictionary.specs.Entries.{number_where, definition_at, vendor_of}

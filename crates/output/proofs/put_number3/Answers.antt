@@ -1,7 +1,6 @@
 -- `output::put_number3` meets its contract, by the law over the width.
 use mathlib.Core.Path.{◌∙◌}
 use native.Mathlib.Omega.{arith}
-use lib.ListN.{length-set}
 use Rattle.rules.specs.Octets.{octets}
 use Rattle.octets.proofs.Puts.{stored_number}
 use Rattle.output.proofs.Output.{octets_three, put_none, put_all}

@@ -1,11 +1,9 @@
 -- `output::put_octets` meets its contract. With what is left at i put, the octets are those of the whole run.
-use mathlib.Core.Path.{◌≡◌, refl, sym, ◌∙◌}
+use mathlib.Core.Path.{◌≡◌}
 use Prim.Native.Nat.{◌≤◌, ◌-◌}
-use native.Mathlib.Omega.{arith}
-use lib.ListN.{length, length-set}
+use lib.ListN.{length}
 use lib.Seq.{sets}
-use Rattle.octets.proofs.Puts.{run_left, run_all, run_next, run_end}
-use Rattle.output.proofs.Output.{put_none, put_all}
+use Rattle.octets.proofs.Puts.{run_left}
 use Rattle.output.proofs.put_octets.Given as goal
 
 abbrev pub invariant-loop-i : goal.invariant-loop-i

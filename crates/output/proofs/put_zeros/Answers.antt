@@ -1,10 +1,8 @@
 -- `output::put_zeros` meets its contract. With what is left at i put, the octets are those of the whole run.
-use mathlib.Core.Path.{◌≡◌, sym, ◌∙◌}
-use Prim.Native.Nat.{◌≤◌, ◌-◌}
+use mathlib.Core.Path.{sym, ◌∙◌}
 use native.Mathlib.Omega.{arith}
-use lib.ListN.{length, length-set, replicate, length-replicate}
-use lib.Seq.{sets}
-use Rattle.octets.proofs.Puts.{run_left, run_all, zeros_next, zeros_end}
+use lib.ListN.{length-set, length-replicate}
+use Rattle.octets.proofs.Puts.{zeros_next, zeros_end}
 use Rattle.output.proofs.Output.{put_none, put_all}
 use Rattle.output.proofs.put_zeros.Goals as goal
 

@@ -1,11 +1,9 @@
 -- `output::put_zeros` meets its contract. With what is left at i put, the octets are those of the whole run.
-use mathlib.Core.Path.{◌≡◌, sym, ◌∙◌}
+use mathlib.Core.Path.{◌≡◌}
 use Prim.Native.Nat.{◌≤◌, ◌-◌}
-use native.Mathlib.Omega.{arith}
-use lib.ListN.{length, length-set, replicate, length-replicate}
+use lib.ListN.{length, replicate}
 use lib.Seq.{sets}
-use Rattle.octets.proofs.Puts.{run_left, run_all, zeros_next, zeros_end}
-use Rattle.output.proofs.Output.{put_none, put_all}
+use Rattle.octets.proofs.Puts.{run_left}
 use Rattle.output.proofs.put_zeros.Given as goal
 
 abbrev pub invariant-loop-i : goal.invariant-loop-i

@@ -7,7 +7,7 @@ use lib.ListN.{length, take, drop, replicate}
 use Rattle.rules.specs.declared.Written.{Written}
 use Rattle.rules.specs.Octets.{number_at, padded, octets}
 use Rattle.rules.specs.Verdict.{verdict}
-use Rattle.rules.specs.Header.{application_nt, length_outcome, application_outcome, flags_outcome, header_outcome}
+use Rattle.rules.specs.Header.{length_outcome, application_outcome, flags_outcome, header_outcome}
 use Rattle.rules.specs.Avp.{avp_at}
 use Rattle.rules.specs.Rows.{rows_of, admits_others}
 use Rattle.rules.specs.Dictionary.{dictionary, find}

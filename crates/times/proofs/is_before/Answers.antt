@@ -1,5 +1,4 @@
 -- `times::is_before` meets its contract.
-use Rattle.std.proofs.Common.{rules}
 use Rattle.rules.specs.Times.{is_before}
 use Rattle.times.proofs.is_before.Goals as goal
 

@@ -1,5 +1,5 @@
 -- `times::moment` meets its contract.
-use Rattle.std.proofs.Common.{◌≡◌, ◌+◌, ◌%◌, ◌^◌, rules}
+use Rattle.std.proofs.Common.{◌≡◌, ◌+◌, ◌%◌, ◌^◌}
 use Rattle.rules.specs.Times.{half_range, moment}
 use Rattle.times.proofs.moment.Goals as goal
 

@@ -1,5 +1,5 @@
 -- `times::seconds` meets its contract.
-use Rattle.std.proofs.Common.{◌≡◌, ℕ, ◌^◌, ◌<◌, pos, ◌-ℤ◌, ◌∙◌, w64, rules}
+use Rattle.std.proofs.Common.{◌≡◌, ℕ, ◌^◌, ◌<◌, pos, ◌-ℤ◌, ◌∙◌, w64}
 use mir.ValLaws.{to_z-of_z}
 use Rattle.rules.specs.Times.{moment, seconds}
 use Rattle.rules.proofs.demands.Times.{moment_below}

@@ -1,5 +1,4 @@
 -- `reader::judge::judge` meets its contract.
-use mathlib.Core.Path.{sym, ◌∙◌}
 use Rattle.reader.proofs.Order.{header_refused, judged_right}
 use Rattle.reader.proofs.judge.judge.Goals as goal
 

@@ -1,5 +1,4 @@
 -- `reader::judge::judge_by` meets its contract.
-use mathlib.Core.Path.{sym, ◌∙◌}
 use Rattle.reader.proofs.Order.{judged_header}
 use Rattle.reader.proofs.judge.judge_by.Goals as goal
 

@@ -1,15 +1,9 @@
 -- `reader::record::avps_of` meets its contract. The places before i hold the AVPs of the log, those from i on are
 -- blank.
-use mathlib.Core.Path.{◌≡◌, sym, ap, ◌∙◌}
-use mathlib.Core.List.{List}
-use Prim.Native.Nat.{ℕ, ◌≤◌, ◌-◌}
-use native.Mathlib.Omega.{arith}
-use lib.ListN.{set}
-use Rattle.rules.specs.declared.Avp.{Avp}
-use Rattle.rules.specs.Search.{avp_in}
+use mathlib.Core.Path.{◌≡◌}
+use Prim.Native.Nat.{◌≤◌, ◌-◌}
 use Rattle.walk_log.specs.Log.{avps_in}
-use Rattle.walk_log.proofs.Log.{avps_at_lem, length-avps_in}
-use Rattle.reader.proofs.Places.{filled, filled_next, filled_all}
+use Rattle.reader.proofs.Places.{filled}
 use Rattle.reader.proofs.record.avps_of.Given as goal
 
 abbrev pub invariant-loop-i : goal.invariant-loop-i

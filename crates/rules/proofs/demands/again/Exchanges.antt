@@ -1,7 +1,7 @@
 -- The exchange rules over other octets: they read numbers only of AVPs named Transfer-Request-Type, Transfer-End-Time
 -- and Transfer-Start-Time. Where these are the same, so is the outcome.
 use mathlib.Core.Path.{◌≡◌, refl, ap}
-use mathlib.Core.Bool.{Bool, true, false}
+use mathlib.Core.Bool.{true}
 use mathlib.Core.List.{List, [], ◌∷◌}
 use Prim.Native.Nat.{ℕ, ◌+◌}
 use Rattle.rules.specs.declared.Avp.{Avp}

@@ -16,7 +16,7 @@ use Rattle.rules.specs.declared.Checked.{Checked}
 use Rattle.rules.specs.declared.Checked.TheVariants.{Fault, Plain, Group}
 use Rattle.rules.specs.declared.Definition.{Definition}
 use Rattle.rules.specs.Verdict.{verdict, or_else}
-use Rattle.rules.specs.Header.{header_size, version, length_field, longest_command, command_flags, length_outcome, application_outcome, flags_outcome, header_outcome}
+use Rattle.rules.specs.Header.{header_size, length_field, longest_command, command_flags, length_outcome, application_outcome, flags_outcome, header_outcome}
 use Rattle.rules.specs.Avp.{avp_at}
 use Rattle.rules.specs.Dictionary.{Entry, defined, is_group}
 use Rattle.rules.specs.Walk.{Standing, is_full, framing, contents, settled, checked, Walked, whole, stopped, stop_of, after, and_then, in_group, behind, entered, walk_avp, walk_list}
