@@ -2,7 +2,6 @@
 -- and the answer of a search as numbers.
 use Rattle.std.specs.Prelude.{◌≡◌, ℕ, List, length, take, drop, replicate}
 use Rattle.rules.specs.declared.Verdict.{Verdict}
-use Rattle.rules.specs.declared.Outcome.{Outcome}
 use Rattle.rules.specs.declared.Outcome.TheVariants.{Refused}
 use Rattle.rules.specs.declared.Sought.{Sought}
 use Rattle.rules.specs.Command.{command_outcome, command_verdict}

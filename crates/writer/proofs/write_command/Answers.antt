@@ -4,7 +4,7 @@ use native.Mathlib.Omega.{arith}
 use lib.ListN.{length, take}
 use lib.Seq.{length-take-le}
 use Rattle.output.proofs.Output.{put_fits}
-use Rattle.writer.proofs.Answers.{judged_refused, judged_accepted}
+use Rattle.writer.proofs.Answers.{judged_accepted}
 use Rattle.writer.proofs.write_command.Goals as goal
 
 pub returns : goal.returns

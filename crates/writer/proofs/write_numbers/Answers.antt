@@ -1,10 +1,9 @@
 -- `writer::write_numbers` meets its contract.
 use mathlib.Core.Path.{◌≡◌, sym, ◌∙◌}
 use lib.ListN.{length}
-use Rattle.rules.specs.declared.Outcome.TheVariants.{Pass}
 use Rattle.numbers.specs.Draft.{numbered_draft}
 use Rattle.rules.specs.Writer.{own_outcome}
-use Rattle.writer.proofs.Answers.{written_refused, command_whole, can_write, written_judged}
+use Rattle.writer.proofs.Answers.{written_refused, can_write, written_judged}
 use Rattle.writer.proofs.write_numbers.Goals as goal
 
 pub returns-in-Refused : goal.returns-in-Refused
