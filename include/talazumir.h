@@ -64,15 +64,15 @@ extern "C" {
  * calls, rounded up. memcpy and memset of the C library, where the archive's code calls them, count 4,096, since the
  * dynamic linker may bind them at their first call. No proof says it: tests/boundary/stack adds up the frames of the
  * archive as built. */
-#define TALAZUMIR_VERDICT_STACK 4096
+#define TALAZUMIR_VERDICT_STACK 8192
 #define TALAZUMIR_READ_STACK 16384
 #define TALAZUMIR_DATA_STACK 256
 #define TALAZUMIR_SEARCH_STACK 256
 #define TALAZUMIR_WRITE_STACK 32768
-#define TALAZUMIR_CANONICAL_STACK 53248
+#define TALAZUMIR_CANONICAL_STACK 57344
 #define TALAZUMIR_SECONDS_STACK 256
 #define TALAZUMIR_LINK_FRESH_STACK 256
-#define TALAZUMIR_LINK_TAKE_STACK 4096
+#define TALAZUMIR_LINK_TAKE_STACK 8192
 
 /* What comes back for a command, a draft or a fragment: the number (table below), the place, counted in octets from the
  * command's start, and the Vendor-Id and code of the AVP at fault. An accepted one has four times 0.

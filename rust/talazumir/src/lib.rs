@@ -2,8 +2,8 @@
 //! answers to the request) as safe Rust.
 //!
 //! The answers come from the archive that `rt lib` in `crates/boundary` proves and builds; this crate only hands over
-//! slices and arrays. `include/talazumir.h` has the table of verdict numbers, and the stack that each call takes: 52 KiB
-//! at most. The archive is the one in the repository's `crates/boundary/out`, or in the folder that
+//! slices and arrays. `include/talazumir.h` has the table of verdict numbers, and the stack that each call takes: 56
+//! KiB at most. The archive is the one in the repository's `crates/boundary/out`, or in the folder that
 //! `TALAZUMIR_ARCHIVE_DIR` names at the build.
 //!
 //! ```
