@@ -10,7 +10,7 @@ unfoldable pub number_where : (Entry → Bool) → List Entry → ℕ
 number_where test [] = 0
 number_where test (e ∷ es) = cond (test e) 0 (suc (number_where test es))
 
--- the search of a dictionary: the number of the entry of a vendor and a code; it leads to what `find` says (`found-is`
+-- the search of a dictionary: the number of the entry of a vendor and a code; it leads to what `find` says (`found_is`
 -- in proofs/Entries)
 abbrev pub entry_of : List Entry → ℕ → ℕ → ℕ
 entry_of dict vendor code = number_where (λ e. eqb code e.code && eqb vendor e.vendor) dict

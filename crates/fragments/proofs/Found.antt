@@ -82,7 +82,7 @@ of_run (Command v) = false
 of_run (Refusal v) = eqb v.number 5015 || eqb v.number 7001
 
 -- "After a refusal at the fourth octet 7009 is due until the caller starts afresh", whatever becomes of the buffer.
--- Carried by by-ways: such a refusal leaves a state that has stopped.
+-- Carried by by_ways: such a refusal leaves a state that has stopped.
 -- Ruled out: a reader that never stops and leaves 7009 to the refused length field in the buffer; one that goes on once
 -- other octets stand there.
 pub refusal_until_afresh : (st : State) (fragment buffer fragment' buffer' : List ℕ)

@@ -39,7 +39,7 @@ module _ (st : State) (fragment buffer buffer' : List ℕ) (room : longest_comma
 
     -- "a state whose held octets, from four on, are not short of a length field ... in the buffer": of a buffer a call
     -- reads the octets held alone, in every state; what two buffers have behind them does not count.
-    -- Carried by same-field: a length field is read from four octets on, so of those held.
+    -- Carried by same_field: a length field is read from four octets on, so of those held.
     -- Ruled out: a reader that reads the length field in the buffer before four octets are held; one that tells by the
     -- octet behind those held whether a command goes on.
     pub behind_held_unread : step st fragment buffer ≡ step st fragment buffer'

@@ -170,7 +170,7 @@ cut_offers run (c ∷ cs) o =
 -- "Provided that the caller starts afresh, ..., every cutting of one run ... gives the same verdicts ..., octets taken
 -- in total and unfinished rest as the run uncut": at every moment, with the octets taken so far as the run, also where
 -- more of it was offered. "A shorter run is unfinished."
--- Carried by cutting-as-uncut: the calls, cut off behind what they take, are a cutting of these octets.
+-- Carried by cutting_as_uncut: the calls, cut off behind what they take, are a cutting of these octets.
 -- Ruled out: a reader that tells a command's verdict some calls after its last octet, or before it; one that is right
 -- about a run only once all of it is taken.
 pub at_every_moment : (run : List ℕ) (calls : List Call) → StartsAfresh calls → KeepsBuffer calls → LendsEnough calls

@@ -77,7 +77,7 @@ step_in_table st fragment buffer =
     (λ e. ap (λ (t : Step). in_table t.progress) (step_7009 st fragment buffer r e)))
 
 -- "Refusals ...: 7004 ...; then 7009 ...; then, at the fourth octet, ... 5015 at 1 ... and 7001 at 1": no other number.
--- Carried by onward-meets: a call that goes on is unfinished, a command or a refusal of its length field.
+-- Carried by onward_meets: a call that goes on is unfinished, a command or a refusal of its length field.
 -- Ruled out: a call refused with a number that says something else elsewhere, as 7006 does of a draft; a refusal
 -- numbered 0, which looks like an acceptance.
 pub refusal_numbers : (st : State) (fragment buffer : List ℕ) (v : Verdict)

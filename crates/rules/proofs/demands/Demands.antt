@@ -29,7 +29,7 @@ use Rattle.rules.proofs.demands.calls.Answers.{empty_read, none_written, unalter
 
 -- "Every public entry takes whatever octets or drafts it is handed and ends with the one answer that document 01
 -- fixes": the number is 0 or one of 01's table, and the reader gives none of those that only the writer has.
--- Carried by header_meets and walk-meets (numbering/Refusals), rows_meets and exchange_meets (numbering/ListRefusals).
+-- Carried by header_meets and walk_meets (numbering/Refusals), rows_meets and exchange_meets (numbering/ListRefusals).
 -- Ruled out: a reader that gives a number of RFC 6733 that 01 does not list, as 5012 for whatever else is wrong; one
 -- that says 7004 or 7006, which a caller takes for a fault of the draft.
 pub demand_1_reader_number : (c : List ℕ)

@@ -77,7 +77,7 @@ demand_2_accepted_verdict c a = ap verdict_of ((demand_2_accepted c).0 a)
 
 -- "Every refusal carries place, vendor and code [...] Header refusals and 7002 have vendor and code 0" (01, What comes
 -- back): the place of a header refusal is that of the field at fault, and 5015, which stands at 0 or 1, names none.
--- Carried by header_meets and walk-meets (numbering/Refusals), rows_meets and exchange_meets (numbering/ListRefusals).
+-- Carried by header_meets and walk_meets (numbering/Refusals), rows_meets and exchange_meets (numbering/ListRefusals).
 -- Ruled out: a reader whose 3001 stands at place 8, as 3007 does; one whose 7002 carries the name of the 257th AVP.
 pub demand_1_header_places : (c : List ℕ) → fits_table (command_verdict c) ≡ true
 demand_1_header_places = command_fits
