@@ -5,7 +5,6 @@ use native.Mathlib.Omega.{arith}
 use Rattle.rules.specs.Octets.{padded, IsPadded}
 use Rattle.rules.proofs.Octets.{padded_rule, padded_unique}
 use Rattle.octets.proofs.padded_length.Goals as goal
-use Rattle.octets.proofs.padded_length.Goals.{then-size-gt0, else-size-gt0}
 
 -- what follows the rule meets the contract
 settled : (n r : ℕ) → n < 4294967296 → IsPadded n r
@@ -18,6 +17,6 @@ returns c =
     settled c.args.length _ (omega arith)
     (record {
       multiple = omega arith;
-      no_smaller = elim c.if-size-gt0.branch [ then-size-gt0 w ↦ omega arith | else-size-gt0 w ↦ omega arith ];
-      least = λ k four room. elim c.if-size-gt0.branch [ then-size-gt0 w ↦ omega arith | else-size-gt0 w ↦ omega arith ];
+      no_smaller = grind arith;
+      least = λ k four room. grind arith;
     })
