@@ -26,6 +26,7 @@ WORKED = bytes.fromhex("01000014C08000730100008400000001 00000002")
 SAMPLE = (ROOT / "books/sample.ntb").read_bytes()
 SAMPLE_LISTING = (ROOT / "books/sample.listing").read_bytes()
 ONLY_HEAD = b"NTB 1\nend 0 0\n"
+UNWRITTEN = b"verdicts: writing failed\n"
 STREAM = (ROOT / "streams/sample.nts").read_bytes()
 STREAM_LISTING = (ROOT / "streams/sample.listing").read_bytes()
 KIT = "a kit of the tests"
