@@ -1,10 +1,10 @@
 // 01, Exchange rules of a request, by its Transfer-Request-Type.
 ghost use Rattle.std.specs.Prelude.{◌≡◌, ◌≤◌};
-ghost use Rattle.rules.specs.Exchange.{direction as directionOf};
+ghost use Rattle.rules.specs.Exchange.{direction as direction_of};
 ghost use Rattle.rules.specs.Exchange.{first_request, later_request, by_request_type, request_outcome};
 ghost use Rattle.rules.specs.Walk.{most_avps};
 ghost use Rattle.walk_log.specs.Log.{avps_in};
-ghost use Rattle.exchange.specs.Positions.{volumes as volumesOf};
+ghost use Rattle.exchange.specs.Positions.{volumes as volumes_of};
 ghost use Rattle.exchange.specs.Firsts.{find_in};
 
 use crate::search::{number_of, present, require, search};
@@ -18,7 +18,7 @@ use rules::{Found, Outcome, limits};
 
 // The volume of a direction, uplink or downlink.
 fn direction(firsts: &[u16; kinds::ENTRIES], count: usize) -> Found
-    ensures { result ≡ directionOf (find_in firsts.now count) }
+    ensures { result ≡ direction_of (find_in firsts.now count) }
 {
     let input = search(firsts, count, CcInputOctets::ENTRY);
     let Found::At(_) = input else {
@@ -36,7 +36,7 @@ fn volumes(
     end: u32,
 ) -> Outcome
     requires { count ≤ most_avps }
-    ensures { result ≡ volumesOf (find_in firsts.now count) (avps_in log.now count) end }
+    ensures { result ≡ volumes_of (find_in firsts.now count) (avps_in log.now count) end }
 {
     let direction = direction(firsts, count);
     let Found::At(i) = search(firsts, count, CcTotalOctets::ENTRY) else {

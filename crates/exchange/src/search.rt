@@ -3,7 +3,7 @@
 ghost use Rattle.std.specs.Prelude.{◌≡◌, get_or};
 ghost use Rattle.rules.specs.Octets.{number_at, IsNumber};
 ghost use Rattle.rules.specs.Search.{avp_in};
-ghost use Rattle.rules.specs.Exchange.{present as presentBy, require as requireIn};
+ghost use Rattle.rules.specs.Exchange.{present as present_by, require as require_in};
 ghost use Rattle.rules.specs.Walk.{most_avps};
 ghost use Rattle.walk_log.specs.Log.{avps_in};
 ghost use Rattle.rules.specs.Dictionary.{dictionary};
@@ -50,7 +50,7 @@ pub(crate) fn search(firsts: &[u16; kinds::ENTRIES], count: usize, entry: u8) ->
 
 // What a search says of an AVP that a list must have; `end` is the list's end.
 pub(crate) fn present(found: Found, end: u32, vendor: u32, code: u32) -> Outcome
-    ensures { result ≡ presentBy end vendor code found }
+    ensures { result ≡ present_by end vendor code found }
 {
     let Found::At(_) = found else {
         return refusal(5005, end, vendor, code);
@@ -60,7 +60,7 @@ pub(crate) fn present(found: Found, end: u32, vendor: u32, code: u32) -> Outcome
 
 // An AVP of an entry's kind that a list must have; `end` is the list's end.
 pub(crate) fn require(firsts: &[u16; kinds::ENTRIES], count: usize, end: u32, entry: u8) -> Outcome
-    ensures { result ≡ requireIn (find_in firsts.now count) end (vendor_of dictionary entry) (code_of dictionary entry) }
+    ensures { result ≡ require_in (find_in firsts.now count) end (vendor_of dictionary entry) (code_of dictionary entry) }
 {
     let found = search(firsts, count, entry);
     present(
