@@ -81,6 +81,9 @@ def table(root):
         if p.endswith(".antt") and not is_proof_of_function(p):
             for m in DECLARED.finditer(t):
                 declared.add(m[2])
+        else:
+            for m in GHOST_USE.finditer(t):
+                declared.update(re.findall(r"\bas (\w+)", m[0]))
     rows = {}
     for name in declared:
         if "◌" in name or not re.fullmatch(r"[A-Za-zμ0-9_'-]+", name):
