@@ -10,12 +10,12 @@ pub returns-then-place-ge-PLAIN_CODES : goal.returns-then-place-ge-PLAIN_CODES
 unfolding plain_entry dictionary
 returns-then-place-ge-PLAIN_CODES c =
     let code = c.args.code in
-    let beyond : plain_codes ≤ code = omega (arith, c.if-place-ge-PLAIN_CODES.true) in
+    let beyond : plain_codes ≤ code = omega arith in
     rw (le-leb plain_codes code beyond)
 
 pub returns : goal.returns
 unfolding plain_entry
 returns c =
     let code = c.args.code in
-    let within : code < plain_codes = omega (arith, c.if-place-ge-PLAIN_CODES.false) in
+    let within : code < plain_codes = omega arith in
     rw (lt-leb plain_codes code within)

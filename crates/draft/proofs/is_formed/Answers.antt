@@ -34,7 +34,7 @@ after_blank c =
     let a = c.args in
     let n = a.numbers.now in
     let s = a.s.now in
-    let few : numbered_count n ≤ most_avps = omega (arith, c.count-count.ensures, c.if-count-gt-MOST_AVPS.false) in
+    let few : numbered_count n ≤ most_avps = omega (arith, c.count-count.ensures) in
     let from = ap (λ (k : ℕ). all_blank (drop k (numbered_record n).avps)) c.count-count.ensures in
     formed_few n s few c.are_small.ensures.small
     ∙ ap (λ (b : Bool). b && all_placed dictionary (length s) (numbered_used n) && is_treed n s && is_sized n s)
@@ -43,7 +43,7 @@ after_blank c =
 pub returns-then-count-gt-MOST_AVPS : goal.returns-then-count-gt-MOST_AVPS
 returns-then-count-gt-MOST_AVPS c =
     formed_many c.args.numbers.now c.args.s.now
-    (omega (arith, c.count-count.ensures, c.if-count-gt-MOST_AVPS.true))
+    (omega (arith, c.count-count.ensures))
 
 pub returns-then-not-are_blank : goal.returns-then-not-are_blank
 returns-then-not-are_blank c =

@@ -17,14 +17,14 @@ returns-then-size-gt-LONGEST_COMMAND c =
     let a = c.args in
     let formed = sym c.is_well_formed.ensures ∙ c.if-not-is_well_formed.false in
     refused_7001 a.numbers.now a.s.now formed _ c.command_size-size.ensures a.room a.command.now
-    (omega (arith, c.if-size-gt-LONGEST_COMMAND.true)) _ c.refusal-then-size-gt-LONGEST_COMMAND.ensures
+    (omega arith) _ c.refusal-then-size-gt-LONGEST_COMMAND.ensures
 
 pub returns-then-room-size : goal.returns-then-room-size
 returns-then-room-size c =
     let a = c.args in
     let formed = sym c.is_well_formed.ensures ∙ c.if-not-is_well_formed.false in
     refused_7004 a.numbers.now a.s.now formed _ c.command_size-size.ensures a.room a.command.now
-    (omega (arith, c.if-size-gt-LONGEST_COMMAND.false)) (omega (arith, c.if-room-size.true)) _
+    (omega arith) (omega (arith, c.if-room-size.true)) _
     c.refusal-then-room-size.ensures
 
 pub put_command-requires : goal.put_command-requires
@@ -32,12 +32,12 @@ put_command-requires c =
     let a = c.args in
     let formed = sym c.is_well_formed.ensures ∙ c.if-not-is_well_formed.false in
     can_put a.numbers.now a.s.now formed _ c.command_size-size.ensures a.room a.command.now
-    (omega (arith, c.if-size-gt-LONGEST_COMMAND.false)) (search rules)
+    (omega arith) (search rules)
 
 pub returns : goal.returns
 returns c =
     let a = c.args in
     let formed = sym c.is_well_formed.ensures ∙ c.if-not-is_well_formed.false in
     put_whole a.numbers.now a.s.now formed _ c.command_size-size.ensures a.room a.command.now
-    (omega (arith, c.if-size-gt-LONGEST_COMMAND.false)) (search rules) (omega (arith, c.if-room-size.false))
+    (omega arith) (search rules) (omega (arith, c.if-room-size.false))
     _ c.put_command.ensures

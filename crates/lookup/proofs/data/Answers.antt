@@ -46,7 +46,7 @@ pub returns-clause-place : goal.returns-clause-place
 unfolding data_start
 returns-clause-place c =
     let a = c.args in
-    rw (lies_inside a.record a.position (length a.s.now) (omega arith) c.if-s-end.false) (omega arith)
+    rw (lies_inside a.record a.position (length a.s.now) (omega arith) (omega arith)) (omega arith)
 
 pub returns-clause-octets : goal.returns-clause-octets
 returns-clause-octets c =
@@ -54,4 +54,4 @@ returns-clause-octets c =
     let x = avp_in a.record.avps a.position in
     let e : x.start + x.length - x.start ≡ x.length = omega arith in
     ap (λ (n : ℕ). take n (drop x.start a.s.now)) e
-    ∙ sym (data_inside a.record a.position a.s.now (omega arith) c.if-s-end.false)
+    ∙ sym (data_inside a.record a.position a.s.now (omega arith) (omega arith))

@@ -13,7 +13,7 @@ pub returns-then-count-ge-MOST_AVPS : goal.returns-then-count-ge-MOST_AVPS
 returns-then-count-ge-MOST_AVPS c =
     let a = c.args in
     let w = standing a.at a.end a.depth a.count in
-    rw (checked_many (dictionary_by a.table.now) a.s.now w (omega (arith, c.if-count-ge-MOST_AVPS.true)))
+    rw (checked_many (dictionary_by a.table.now) a.s.now w (omega arith))
     (ap Faulty c.fault.ensures)
 
 pub looked_up-requires : goal.looked_up-requires
@@ -26,12 +26,12 @@ pub returns-in-Holds : goal.returns-in-Holds
 returns-in-Holds c =
     let a = c.args in
     let w = standing a.at a.end a.depth a.count in
-    let few : a.count < most_avps = omega (arith, c.if-count-ge-MOST_AVPS.false) in
+    let few : a.count < most_avps = omega arith in
     rw (holds_checked a.s.now w (dictionary_by a.table.now) few c.in-Holds.ensures) c.looked_up.ensures
 
 pub returns-in-Broken : goal.returns-in-Broken
 returns-in-Broken c =
     let a = c.args in
     let w = standing a.at a.end a.depth a.count in
-    let few : a.count < most_avps = omega (arith, c.if-count-ge-MOST_AVPS.false) in
+    let few : a.count < most_avps = omega arith in
     rw (broken_checked a.s.now w (dictionary_by a.table.now) few c.in-Broken.ensures)
