@@ -7,8 +7,7 @@ use native.Mathlib.Omega.{arith}
 use borrow.Author.Tests.{lt-ltb, le-ltb, eq-eqb, ne_eqb, ltb-true, ltb-false, eqb-true, not-false}
 use lib.Dec.{ltb, eqb}
 use lib.ListN.{length}
-use Rattle.rules.specs.declared.Outcome.TheVariants.{Pass}
-use Rattle.rules.specs.Verdict.{refused, or_else}
+use Rattle.rules.specs.Verdict.{refused, or_else, no_refusal}
 use Rattle.rules.specs.Header.{header_size, version, length_field, command_code, application, is_request, is_proxiable, is_error, length_outcome, application_outcome, flags_outcome, header_outcome, command_flags, application_nt, code_background_data_transfer, longest_command}
 use Rattle.rules.proofs.Outcomes.{both_pass}
 use Rattle.rules.proofs.Tests.{neither}
@@ -21,7 +20,7 @@ module _ (s : List ℕ) where
   length-few h = rw (lt-ltb (length s) 20 h)
 
   -- what passes has the twenty octets of a header
-  pub length-enough : length_outcome s ≡ Pass → 20 ≤ length s
+  pub length-enough : length_outcome s ≡ no_refusal → 20 ≤ length s
   length-enough e = by_cases (ltb (length s) 20) (λ h. never (sym (length-few (ltb-true _ _ h)) ∙ e)) (λ h. ltb-false _ _ h)
 
   module _ (enough : 20 ≤ length s) where
@@ -52,7 +51,7 @@ module _ (s : List ℕ) where
             length-long h =
                 rw (le-ltb (length s) 20 enough, eq-eqb (version s) 1 right, le-ltb (length_field s) 20 least, eq-eqb (length_field s % 4) 0 four, eq-eqb (length_field s) (length s) same, lt-ltb 16384 (length_field s) h)
 
-            pub length-pass : length_field s ≤ 16384 → length_outcome s ≡ Pass
+            pub length-pass : length_field s ≤ 16384 → length_outcome s ≡ no_refusal
             unfolding length_outcome
             length-pass h =
                 rw (le-ltb (length s) 20 enough, eq-eqb (version s) 1 right, le-ltb (length_field s) 20 least, eq-eqb (length_field s % 4) 0 four, eq-eqb (length_field s) (length s) same, le-ltb 16384 (length_field s) h)
@@ -67,7 +66,7 @@ module _ (s : List ℕ) where
     unfolding application_outcome
     code_other h = rw (eq-eqb (application s) 16777348 nt, ne_eqb (command_code s) 8388723 h)
 
-    pub application_pass : command_code s ≡ 8388723 → application_outcome s ≡ Pass
+    pub application_pass : command_code s ≡ 8388723 → application_outcome s ≡ no_refusal
     unfolding application_outcome
     application_pass h = rw (eq-eqb (application s) 16777348 nt, eq-eqb (command_code s) 8388723 h)
 
@@ -77,12 +76,12 @@ module _ (flags : ℕ) where
   flags_error_request h = rw h
 
   module _ (one : (is_request flags && is_error flags) ≡ false) where
-    pub flags_proxiable : is_proxiable flags ≡ true → flags_outcome flags ≡ Pass
+    pub flags_proxiable : is_proxiable flags ≡ true → flags_outcome flags ≡ no_refusal
     unfolding flags_outcome
     flags_proxiable h = rw (one, h)
 
     module _ (clear : is_proxiable flags ≡ false) where
-      pub flags_error_answer : is_error flags ≡ true → flags_outcome flags ≡ Pass
+      pub flags_error_answer : is_error flags ≡ true → flags_outcome flags ≡ no_refusal
       unfolding flags_outcome
       flags_error_answer h =
           let answer : is_request flags ≡ false = sym (and-true (is_request flags)) ∙ rw h at one in
@@ -102,9 +101,9 @@ pub record Headed (c : List ℕ) : Type 0 where
   pub within : length c ≤ 16384
   pub application_is : application c ≡ application_nt
   pub code_is : command_code c ≡ code_background_data_transfer
-  pub flags_pass : flags_outcome (command_flags c) ≡ Pass
+  pub flags_pass : flags_outcome (command_flags c) ≡ no_refusal
 
-pub headed : (c : List ℕ) → header_outcome c ≡ Pass → Headed c
+pub headed : (c : List ℕ) → header_outcome c ≡ no_refusal → Headed c
 unfolding header_outcome length_outcome application_outcome
 headed c e =
     let a = both_pass (length_outcome c) (or_else (application_outcome c) (flags_outcome (command_flags c))) e in

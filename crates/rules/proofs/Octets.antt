@@ -26,7 +26,7 @@ number_cons : (x : ℕ) (xs : List ℕ) → number (x ∷ xs) ≡ x * 256 ^ leng
 number_cons x xs = refl
 
 -- one octet more at the end
-number_snoc : (xs : List ℕ) (y : ℕ) → number (xs ++ (y ∷ [])) ≡ number xs * 256 + y
+pub number_snoc : (xs : List ℕ) (y : ℕ) → number (xs ++ (y ∷ [])) ≡ number xs * 256 + y
 number_snoc [] y = omega arith
 number_snoc (x ∷ xs) y =
     let e = number_snoc xs y in

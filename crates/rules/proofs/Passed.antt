@@ -1,5 +1,6 @@
 -- What checks that passed tell: of an AVP its frame, its flags, and that it is the one at its place.
 use mathlib.Core.Path.{◌≡◌, refl, sym, ap}
+use Rattle.std.specs.Prelude.{Err, Ok}
 use mathlib.Core.Bool.{Bool, true, false, cond, not, ◌&&◌, ◌||◌}
 use mathlib.Core.List.{List}
 use Prim.Native.Nat.{ℕ, ◌+◌, ◌-◌, ◌%◌, ◌≤◌, ◌<◌}
@@ -8,23 +9,19 @@ use borrow.Author.Tests.{ltb-false, leb-true, leb-false, eqb-true, not-false}
 use lib.Dec.{ltb, eqb}
 use Rattle.rules.specs.declared.Avp.{Avp}
 use Rattle.rules.specs.declared.Verdict.{Verdict}
-use Rattle.rules.specs.declared.Outcome.{Outcome}
-use Rattle.rules.specs.declared.Outcome.TheVariants.{Pass, Refused}
-use Rattle.rules.specs.declared.Checked.{Checked}
-use Rattle.rules.specs.declared.Checked.TheVariants.{Fault, Plain, Group}
-use Rattle.rules.specs.declared.Definition.{Definition}
 use Rattle.rules.specs.Octets.{number_at, padded}
-use Rattle.rules.specs.Verdict.{refuse_if}
+use Rattle.rules.specs.Verdict.{refuse_if, Outcome, no_refusal}
 use Rattle.rules.specs.Avp.{flags_at, flag_v, length_at, header_of, next_at, avp_at, end_of}
-use Rattle.rules.specs.Dictionary.{Entry, defined, requires_m, is_group}
-use Rattle.rules.specs.Walk.{Standing, most_avps, is_full, framing, wrong_flags, unsupported, wrong_width, wrong_value, too_deep, contents, settled, checked_avp, checked}
+use Rattle.rules.specs.declared.Entry.{Entry}
+use Rattle.rules.specs.Dictionary.{defined, requires_m, is_group, Definition}
+use Rattle.rules.specs.Walk.{Standing, most_avps, is_full, framing, wrong_flags, unsupported, wrong_width, wrong_value, too_deep, contents, settled, checked_avp, checked, Checked, Fault, Plain, Group}
 use Rattle.rules.proofs.Octets.{padded_least}
 use Rattle.rules.proofs.Tests.{neither}
 use Rattle.rules.proofs.Fields.{avp_at_start, avp_at_end, header_least, padded_header}
 use Rattle.rules.proofs.Walk.{by_cases, never, checked_many}
 
 -- a check that lets pass did not apply
-pub not_refused : (b : Bool) (v : Verdict) (o : Outcome) → refuse_if b (Refused v) o ≡ Pass → (b ≡ false) × (o ≡ Pass)
+pub not_refused : (b : Bool) (v : Verdict) (o : Outcome) → refuse_if b (Err v) o ≡ no_refusal → (b ≡ false) × (o ≡ no_refusal)
 not_refused true v o e = never e
 not_refused false v o e = (refl, e)
 
@@ -35,7 +32,7 @@ pub record Framed (s : List ℕ) (at end : ℕ) : Type 0 where
   pub least : length_at s at ≤ padded (length_at s at)
   pub fits : at + padded (length_at s at) ≤ end
 
-pub framed : (s : List ℕ) (at end : ℕ) → framing s at end ≡ Pass → Framed s at end
+pub framed : (s : List ℕ) (at end : ℕ) → framing s at end ≡ no_refusal → Framed s at end
 unfolding framing
 framed s at end pass =
     let v = flag_v (flags_at s at) in
@@ -60,7 +57,7 @@ pub record Clear (octet : ℕ) (a : Avp) (d : Definition) (n : ℕ) : Type 0 whe
   pub value : wrong_value a n ≡ false
   pub level : too_deep a d ≡ false
 
-pub passed : (s : List ℕ) (at : ℕ) (a : Avp) (d : Definition) → contents s at a d ≡ Pass
+pub passed : (s : List ℕ) (at : ℕ) (a : Avp) (d : Definition) → contents s at a d ≡ no_refusal
     → Clear (flags_at s at) a d (number_at 4 s a.start)
 unfolding contents
 passed s at a d e =
@@ -81,16 +78,16 @@ right_flags flags a d e =
     (eqb-true _ _ (not-false _ y.0), y.1)
 
 -- a group stands no deeper than 3
-contents_level : (s : List ℕ) (at : ℕ) (a : Avp) (d : Definition) → contents s at a d ≡ Pass → is_group d ≡ true
+contents_level : (s : List ℕ) (at : ℕ) (a : Avp) (d : Definition) → contents s at a d ≡ no_refusal → is_group d ≡ true
     → a.depth < 4
 unfolding too_deep
 contents_level s at a d e g = leb-false 4 a.depth (rw g at (passed s at a d e).level)
 
 -- ---- the seven checks
 
-no_fault : (o : Outcome) (c x : Checked) → settled o c ≡ x → ((v : Verdict) → x ≡ Fault v → ⊥) → (o ≡ Pass) × (c ≡ x)
-no_fault Pass c x e n = (refl, e)
-no_fault (Refused v) c x e n = absurd (n v (sym e))
+no_fault : (o : Outcome) (c x : Checked) → settled o c ≡ x → ((v : Verdict) → x ≡ Fault v → ⊥) → (o ≡ no_refusal) × (c ≡ x)
+no_fault (Ok u) c x e n = (refl, e)
+no_fault (Err v) c x e n = absurd (n v (sym e))
 
 plain_of : (b : Bool) (a x : Avp) → cond b (Group a) (Plain a) ≡ Plain x → a ≡ x
 plain_of true a x e = let z : ◌≡◌ {A = ℕ} 0 1 = cc in absurd (omega arith)
@@ -102,7 +99,7 @@ group_of false a x e = let z : ◌≡◌ {A = ℕ} 0 1 = cc in absurd (omega ari
 
 module _ (dict : List Entry) (s : List ℕ) (w : Standing) where
   checked_pass : (x : Checked) → checked dict s w ≡ x → ((v : Verdict) → x ≡ Fault v → ⊥)
-      → (framing s w.at w.end ≡ Pass) × (checked_avp dict s w.at (avp_at s w.at w.depth) ≡ x)
+      → (framing s w.at w.end ≡ no_refusal) × (checked_avp dict s w.at (avp_at s w.at w.depth) ≡ x)
   unfolding checked
   checked_pass x e n =
       by_cases (is_full w)
@@ -118,7 +115,7 @@ module _ (dict : List Entry) (s : List ℕ) (w : Standing) where
 
   -- a plain AVP is the one at its place
   pub plain_is : {a : Avp} → checked dict s w ≡ Plain a
-      → (framing s w.at w.end ≡ Pass) × (a ≡ avp_at s w.at w.depth)
+      → (framing s w.at w.end ≡ no_refusal) × (a ≡ avp_at s w.at w.depth)
   plain_is {a} e =
       let n : (v : Verdict) → Plain a ≡ Fault v → ⊥ = λ v f. let z : ◌≡◌ {A = ℕ} 0 1 = cc in omega arith in
       let f = checked_pass (Plain a) e n in
@@ -129,7 +126,7 @@ module _ (dict : List Entry) (s : List ℕ) (w : Standing) where
 
   -- so is a group, and it stands no deeper than 3
   pub group_is : {a : Avp} → checked dict s w ≡ Group a
-      → (framing s w.at w.end ≡ Pass) × (a ≡ avp_at s w.at w.depth) × (a.depth < 4)
+      → (framing s w.at w.end ≡ no_refusal) × (a ≡ avp_at s w.at w.depth) × (a.depth < 4)
   group_is {a} e =
       let n : (v : Verdict) → Group a ≡ Fault v → ⊥ = λ v f. let z : ◌≡◌ {A = ℕ} 0 1 = cc in omega arith in
       let f = checked_pass (Group a) e n in
@@ -158,7 +155,7 @@ next_after_lem s at depth h =
     let e : header_of v + (length_at s at - header_of v) ≡ length_at s at = omega arith in
     omega (arith, ap padded e, padded_header v (length_at s at - header_of v))
 
-in_frame : (s : List ℕ) (w : Standing) → framing s w.at w.end ≡ Pass → InFrame s w (avp_at s w.at w.depth)
+in_frame : (s : List ℕ) (w : Standing) → framing s w.at w.end ≡ no_refusal → InFrame s w (avp_at s w.at w.depth)
 in_frame s w pass =
     let f = framed s w.at w.end pass in
     let begin = avp_at_start s w.at w.depth in

@@ -1,6 +1,7 @@
 -- Laws of a search among AVPs: what its next AVP, and what one AVP more behind the others, make of the positions; and
 -- which of the positions an ordinal says.
 use mathlib.Core.Path.{◌≡◌, refl, ap, ◌∙◌}
+use Rattle.std.specs.Prelude.{Some, None}
 use mathlib.Core.Bool.{Bool, true, false, cond}
 use mathlib.Core.Logic.{◌↔◌}
 use mathlib.Core.List.{List, [], ◌∷◌, ◌++◌}
@@ -11,7 +12,6 @@ use borrow.Author.Tests.{lt-ltb, le-ltb}
 use lib.Dec.{ltb}
 use lib.ListN.{length}
 use Rattle.rules.specs.declared.Avp.{Avp}
-use Rattle.rules.specs.declared.Found.TheVariants.{At, Nothing}
 use Rattle.rules.specs.Search.{is_at, with_position, positions_from, nth, first_from, how_many}
 
 -- ---- the next AVP
@@ -35,7 +35,7 @@ module _ (i floor depth : ℕ) (a : Avp) (xs : List Avp) (vendor code : ℕ) whe
       → positions_from i floor depth (a ∷ xs) vendor code ≡ positions_from (i + 1) floor depth xs vendor code
   positions_later h e = positions_next h ∙ rw e
 
-  pub first_above : a.depth < floor → first_from i floor depth (a ∷ xs) vendor code ≡ Nothing
+  pub first_above : a.depth < floor → first_from i floor depth (a ∷ xs) vendor code ≡ None
   first_above h = rw (positions_above h)
 
   pub first_later : floor ≤ a.depth → is_at a depth vendor code ≡ false
@@ -46,20 +46,20 @@ pub positions_none : (i floor depth vendor code : ℕ) → positions_from i floo
 unfolding positions_from
 positions_none i floor depth vendor code = refl
 
-pub first_none : (i floor depth vendor code : ℕ) → first_from i floor depth [] vendor code ≡ Nothing
+pub first_none : (i floor depth vendor code : ℕ) → first_from i floor depth [] vendor code ≡ None
 first_none i floor depth vendor code = rw (positions_none i floor depth vendor code)
 
 -- the first of them, by the tests of the next AVP
 first_of : (above own : Bool) (i : ℕ) (is : List ℕ)
-    → nth (cond above [] (with_position own i is)) 0 ≡ cond above Nothing (cond own (At i) (nth is 0))
+    → nth (cond above [] (with_position own i is)) 0 ≡ cond above None (cond own (Some i) (nth is 0))
 first_of true own i is = refl
 first_of false true i is = refl
 first_of false false i is = refl
 
 pub first_next : (i floor depth : ℕ) (a : Avp) (xs : List Avp) (vendor code : ℕ)
     → first_from i floor depth (a ∷ xs) vendor code
-    ≡ cond (ltb a.depth floor) Nothing
-    (cond (is_at a depth vendor code) (At i) (first_from (i + 1) floor depth xs vendor code))
+    ≡ cond (ltb a.depth floor) None
+    (cond (is_at a depth vendor code) (Some i) (first_from (i + 1) floor depth xs vendor code))
 unfolding positions_from
 first_next i floor depth a xs vendor code =
     first_of (ltb a.depth floor) (is_at a depth vendor code) i (positions_from (i + 1) floor depth xs vendor code)
@@ -83,7 +83,7 @@ positions_more (x ∷ xs) i depth a vendor code =
 
 -- ---- the one that an ordinal says
 
-pub nth_none : (is : List ℕ) (ordinal : ℕ) → (nth is ordinal ≡ Nothing) ↔ (length is ≤ ordinal)
+pub nth_none : (is : List ℕ) (ordinal : ℕ) → (nth is ordinal ≡ None) ↔ (length is ≤ ordinal)
 nth_none [] ordinal = (λ e. omega arith, λ h. refl)
 nth_none (i ∷ is) zero = (λ e. let z : ◌≡◌ {A = ℕ} 0 1 = cc in absurd (omega arith), λ h. absurd (omega arith))
 nth_none (i ∷ is) (suc ordinal) =
@@ -93,7 +93,7 @@ nth_none (i ∷ is) (suc ordinal) =
     )
 
 -- behind the others a last one is what their number says
-pub nth_last : (is : List ℕ) (i : ℕ) → nth (is ++ (i ∷ [])) (length is) ≡ At i
+pub nth_last : (is : List ℕ) (i : ℕ) → nth (is ++ (i ∷ [])) (length is) ≡ Some i
 nth_last [] i = refl
 nth_last (j ∷ is) i = nth_last is i
 

@@ -10,11 +10,10 @@ use borrow.Author.Tests.{ltb-true, ltb-false, leb-false, leb-true}
 use lib.Dec.{ltb, leb}
 use lib.ListN.{length}
 use Rattle.rules.specs.declared.Avp.{Avp}
-use Rattle.rules.specs.declared.Checked.{Checked}
-use Rattle.rules.specs.declared.Checked.TheVariants.{Fault, Plain, Group}
 use Rattle.rules.specs.Header.{header_size}
-use Rattle.rules.specs.Dictionary.{Entry, dictionary}
-use Rattle.rules.specs.Walk.{Standing, checked, Walked, whole, stopped, after, and_then, in_group, behind, walk_avp, walk_list}
+use Rattle.rules.specs.declared.Entry.{Entry}
+use Rattle.rules.specs.Dictionary.{dictionary}
+use Rattle.rules.specs.Walk.{Standing, checked, Walked, whole, stopped, after, and_then, in_group, behind, walk_avp, walk_list, Checked, Fault, Plain, Group}
 use Rattle.rules.specs.Command.{command_verdict, own_list, walk_of}
 use Rattle.rules.specs.Lines.{command_line}
 use Rattle.rules.specs.Book.{head_line, length_of, is_cut, command_in, acceptance, lines_from, book_head, is_book, listing}

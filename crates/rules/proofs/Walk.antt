@@ -1,6 +1,7 @@
 -- Laws of the walk's definitions, case by case: the checks of an AVP, one AVP, and the list. They hold for every
 -- dictionary.
 use mathlib.Core.Path.{◌≡◌, refl, ◌∙◌}
+use Rattle.std.specs.Prelude.{Err}
 use mathlib.Core.Bool.{Bool, true, false, cond}
 use mathlib.Core.List.{List, [], ◌∷◌, ◌++◌, append_assoc}
 use Prim.Native.Nat.{ℕ, zero, suc, ◌+◌, ◌-◌, ◌≤◌, ◌<◌}
@@ -9,14 +10,12 @@ use borrow.Author.Tests.{lt-ltb, le-ltb, le-leb, lt-leb}
 use lib.Dec.{ltb}
 use Rattle.rules.specs.declared.Avp.{Avp}
 use Rattle.rules.specs.declared.Verdict.{Verdict}
-use Rattle.rules.specs.declared.Outcome.TheVariants.{Pass, Refused}
-use Rattle.rules.specs.declared.Checked.TheVariants.{Fault, Plain, Group}
-use Rattle.rules.specs.declared.Definition.{Definition}
 use Rattle.rules.specs.Octets.{number_at, padded}
-use Rattle.rules.specs.Verdict.{verdict, refused, refuse_if}
+use Rattle.rules.specs.Verdict.{verdict, refused, refuse_if, no_refusal}
 use Rattle.rules.specs.Avp.{code_at, flags_at, flag_v, length_at, header_of, avp_at}
-use Rattle.rules.specs.Dictionary.{Entry, defined, is_group}
-use Rattle.rules.specs.Walk.{Standing, most_avps, framing, wrong_flags, unsupported, wrong_width, wrong_value, too_deep, contents, checked_avp, checked, Walked, whole, stopped, avps_of, after, and_then, in_group, behind, walk_avp, walk_list}
+use Rattle.rules.specs.declared.Entry.{Entry}
+use Rattle.rules.specs.Dictionary.{defined, is_group, Definition}
+use Rattle.rules.specs.Walk.{Standing, most_avps, framing, wrong_flags, unsupported, wrong_width, wrong_value, too_deep, contents, checked_avp, checked, Walked, whole, stopped, avps_of, after, and_then, in_group, behind, walk_avp, walk_list, Fault, Plain, Group}
 
 -- a test holds or it does not
 pub by_cases : {C : Type 0} (b : Bool) → (b ≡ true → C) → (b ≡ false → C) → C
@@ -24,7 +23,7 @@ by_cases true f g = f refl
 by_cases false f g = g refl
 
 -- a refusal is no pass
-pub never : {C : Type 0} {v : Verdict} → Refused v ≡ Pass → C
+pub never : {C : Type 0} {v : Verdict} → Err v ≡ no_refusal → C
 never e = let z : ◌≡◌ {A = ℕ} 0 1 = cc in absurd (omega arith)
 
 -- ---- check 2
@@ -44,7 +43,7 @@ module _ (s : List ℕ) (at end : ℕ) where
       → framing s at end
       ≡ refuse_if (ltb (length_at s at) (header_of v)) (refused 5014 at (cond v (number_at 4 s (at + 8)) 0) (code_at s at))
       (refuse_if (ltb (end - at) (padded (length_at s at))) (refused 5014 at (cond v (number_at 4 s (at + 8)) 0) (code_at s at))
-      Pass)
+      no_refusal)
   unfolding framing
   framing_by true e h =
       let k : 8 ≤ end - at = omega arith in
@@ -52,7 +51,7 @@ module _ (s : List ℕ) (at end : ℕ) where
   framing_by false e h = rw (le-ltb (end - at) 8 h, e)
 
   pub framing_pass : (v : Bool) → flag_v (flags_at s at) ≡ v → header_of v ≤ end - at → header_of v ≤ length_at s at
-      → padded (length_at s at) ≤ end - at → framing s at end ≡ Pass
+      → padded (length_at s at) ≤ end - at → framing s at end ≡ no_refusal
   framing_pass v e h k l =
       framing_by v e h ∙ rw (le-ltb (length_at s at) (header_of v) k, le-ltb (end - at) (padded (length_at s at)) l)
 
@@ -83,7 +82,7 @@ module _ (s : List ℕ) (at : ℕ) (a : Avp) (d : Definition) where
           unfolding contents
           contents_7003 h = rw (flags, known, width, value, h)
 
-          pub contents_pass : too_deep a d ≡ false → contents s at a d ≡ Pass
+          pub contents_pass : too_deep a d ≡ false → contents s at a d ≡ no_refusal
           unfolding contents
           contents_pass h = rw (flags, known, width, value, h)
 
@@ -95,23 +94,23 @@ module _ (dict : List Entry) (s : List ℕ) (w : Standing) where
   checked_many h = rw (le-leb most_avps w.count h)
 
   module _ (few : w.count < most_avps) where
-    pub checked_frame : {v : Verdict} → framing s w.at w.end ≡ Refused v → checked dict s w ≡ Fault v
+    pub checked_frame : {v : Verdict} → framing s w.at w.end ≡ Err v → checked dict s w ≡ Fault v
     unfolding checked
     checked_frame e = rw (lt-leb most_avps w.count few, e)
 
-    module _ (pass : framing s w.at w.end ≡ Pass) (a : Avp) (is : a ≡ avp_at s w.at w.depth) where
+    module _ (pass : framing s w.at w.end ≡ no_refusal) (a : Avp) (is : a ≡ avp_at s w.at w.depth) where
       pub checked_on : checked dict s w ≡ checked_avp dict s w.at a
       unfolding checked
       checked_on = rw (lt-leb most_avps w.count few, pass, is)
 
       module _ (d : Definition) (says : d ≡ defined dict a) where
-        pub checked_content : {v : Verdict} → contents s w.at a d ≡ Refused v → checked dict s w ≡ Fault v
+        pub checked_content : {v : Verdict} → contents s w.at a d ≡ Err v → checked dict s w ≡ Fault v
         checked_content e = checked_on ∙ rw (← says, e)
 
-        pub checked_group : contents s w.at a d ≡ Pass → is_group d ≡ true → checked dict s w ≡ Group a
+        pub checked_group : contents s w.at a d ≡ no_refusal → is_group d ≡ true → checked dict s w ≡ Group a
         checked_group e g = checked_on ∙ rw (← says, e, g)
 
-        pub checked_plain : contents s w.at a d ≡ Pass → is_group d ≡ false → checked dict s w ≡ Plain a
+        pub checked_plain : contents s w.at a d ≡ no_refusal → is_group d ≡ false → checked dict s w ≡ Plain a
         checked_plain e g = checked_on ∙ rw (← says, e, g)
 
 -- ---- walks: AVPs before, and AVPs after

@@ -5,8 +5,7 @@ use mathlib.Core.List.{List}
 use Prim.Native.Nat.{ℕ, ◌≤◌, ◌<◌}
 use borrow.Author.Tests.{lt-ltb, le-ltb}
 use lib.ListN.{length}
-use Rattle.rules.specs.declared.Outcome.TheVariants.{Pass}
-use Rattle.rules.specs.Verdict.{refused}
+use Rattle.rules.specs.Verdict.{refused, no_refusal}
 use Rattle.rules.specs.Header.{longest_command}
 use Rattle.rules.specs.Draft.{Draft, is_well_formed}
 use Rattle.rules.specs.Writer.{draft_octets, own_outcome}
@@ -27,7 +26,7 @@ module _ (d : Draft) (out : List ℕ) where
       by_room h =
           rw (form, le-ltb longest_command (length (draft_octets d)) within, lt-ltb (length out) (length (draft_octets d)) h)
 
-      pub none_own : length (draft_octets d) ≤ length out → own_outcome d (length out) ≡ Pass
+      pub none_own : length (draft_octets d) ≤ length out → own_outcome d (length out) ≡ no_refusal
       unfolding own_outcome
       none_own h =
           rw (form, le-ltb longest_command (length (draft_octets d)) within, le-ltb (length out) (length (draft_octets d)) h)

@@ -3,9 +3,7 @@
 -- writer's room; here they are one answer. Definitions, and what the theorems of proofs/demands/States claim of them.
 use Rattle.std.specs.Prelude.{◌≡◌, true, ℕ, List, ◌∷◌, length, take, ltb}
 use Rattle.rules.specs.declared.Written.{Written}
-use Rattle.rules.specs.declared.Outcome.{Outcome}
-use Rattle.rules.specs.declared.Outcome.TheVariants.{Pass}
-use Rattle.rules.specs.Verdict.{Accepted, writer_numbers, is_among, verdict, refused, refuse_if, or_else}
+use Rattle.rules.specs.Verdict.{Accepted, writer_numbers, is_among, verdict, refused, refuse_if, or_else, Outcome, no_refusal}
 use Rattle.rules.specs.Command.{command_outcome, command_verdict}
 use Rattle.rules.specs.Meaning.{meaning_of}
 use Rattle.rules.specs.Wire.{command_octets}
@@ -20,7 +18,7 @@ canonical_octets s = command_octets (meaning_of s)
 -- the reader's refusal, then 7004
 unfoldable pub canonical_outcome : List ℕ → ℕ → Outcome
 canonical_outcome s room =
-    or_else (command_outcome s) (refuse_if (ltb room (length (canonical_octets s))) (refused 7004 0 0 0) Pass)
+    or_else (command_outcome s) (refuse_if (ltb room (length (canonical_octets s))) (refused 7004 0 0 0) no_refusal)
 
 -- the octets that a call writes
 unfoldable pub canonical_written : List ℕ → ℕ → List ℕ

@@ -1,16 +1,15 @@
 -- 01, Order of checks: header, walk, rows, exchange rules, windows; the first that applies is the answer. What a
 -- command is judged by is chosen once, from its header.
-use Rattle.std.specs.Prelude.{ℕ, List, cond, length}
+use Rattle.std.specs.Prelude.{ℕ, List, cond, length, Err}
 use Rattle.rules.specs.declared.Avp.{Avp}
 use Rattle.rules.specs.declared.Verdict.{Verdict}
-use Rattle.rules.specs.declared.Outcome.{Outcome}
-use Rattle.rules.specs.declared.Outcome.TheVariants.{Refused}
 use Rattle.rules.specs.declared.Grammar.TheVariants.{Request, Answer, ErrorAnswer}
 use Rattle.rules.specs.declared.ExchangeRules.TheVariants.{OfRequest, OfAnswer, WindowsAlone}
 use Rattle.rules.specs.declared.CommandRules.{CommandRules}
-use Rattle.rules.specs.Verdict.{or_else, verdict_of}
+use Rattle.rules.specs.Verdict.{or_else, verdict_of, Outcome}
 use Rattle.rules.specs.Header.{header_size, header_outcome, command_flags, is_request, is_error}
-use Rattle.rules.specs.Dictionary.{Entry, dictionary}
+use Rattle.rules.specs.declared.Entry.{Entry}
+use Rattle.rules.specs.Dictionary.{dictionary}
 use Rattle.rules.specs.Walk.{Standing, Walked, whole, stopped, walk_list}
 use Rattle.rules.specs.RowChecks.{rows_outcome}
 use Rattle.rules.specs.Exchange.{exchange_outcome}
@@ -55,7 +54,7 @@ lists_outcome s xs =
 -- a fault of the walk is the answer, however its lists would be judged; else rows and exchange rules
 abbrev pub walked_outcome : List ℕ → Walked → Outcome
 walked_outcome s (whole xs) = lists_outcome s xs
-walked_outcome s (stopped xs v) = Refused v
+walked_outcome s (stopped xs v) = Err v
 
 -- header, walk, rows, exchange rules, windows
 unfoldable pub command_outcome : List ℕ → Outcome

@@ -1,23 +1,13 @@
 -- 01, Dictionary: its entries, and the search for a name. Not judged is what stands in data of any length: the text of
 -- strings and identities, addresses, and anything inside 279, 621, 623, 650 or an AVP that the dictionary lacks.
-use Rattle.std.specs.Prelude.{ℕ, List, [], ◌∷◌, ◌++◌, Bool, true, false, cond, ◌&&◌, eqb}
+use Rattle.std.specs.Prelude.{ℕ, List, [], ◌∷◌, ◌++◌, Bool, true, false, cond, ◌&&◌, eqb, Option, Some, None}
 use Rattle.rules.specs.declared.Avp.{Avp}
+use Rattle.rules.specs.declared.Entry.{Entry}
 use Rattle.rules.specs.declared.Form.{Form}
 use Rattle.rules.specs.declared.Form.TheVariants.{Any, Fixed, Group}
-use Rattle.rules.specs.declared.Definition.{Definition}
-use Rattle.rules.specs.declared.Definition.TheVariants.{Known, Unknown}
-use Rattle.rules.specs.declared.Members.{Members}
-use Rattle.rules.specs.declared.Members.TheVariants.{Under, NoMembers}
 use Rattle.rules.specs.declared.Grammar.{Grammar}
 use Rattle.rules.specs.Header.{code_background_data_transfer, vendor_3gpp}
 use Rattle.rules.specs.declared.Grammar.TheVariants.{Request, Answer, ErrorAnswer, VendorSpecificApplicationId, ExperimentalResult, ProxyInfo, SupportedFeatures, TimeWindow, TransferPolicy}
-
--- an entry: the name, whether M must be set, and the form of the data
-pub record Entry : Type 0 where
-  pub vendor : ℕ
-  pub code : ℕ
-  pub m : Bool
-  pub form : Form
 
 -- entries of one vendor, one rule for M and one form
 abbrev pub entries : ℕ → Bool → Form → List ℕ → List Entry
@@ -50,6 +40,11 @@ dictionary =
     ++ entries vendor_3gpp true (Group TimeWindow) (4204 ∷ [])
     ++ entries vendor_3gpp true (Group TransferPolicy) (4207 ∷ [])
 
+-- what a dictionary says of a name: whether M must be set, and the form of the data; or that it lacks the name
+pub data Definition : Type 0 where
+  Known : Bool → Form → Definition
+  Unknown : Definition
+
 -- what a dictionary says of a vendor and a code
 unfoldable pub find : List Entry → ℕ → ℕ → Definition
 find [] vendor code = Unknown
@@ -71,19 +66,19 @@ is_known (Known m form) = true
 is_known Unknown = false
 
 -- the rows that a group's members go by
-abbrev pub members_in : Form → Members
-members_in Any = NoMembers
-members_in (Fixed w) = NoMembers
-members_in (Group g) = Under g
+abbrev pub members_in : Form → Option Grammar
+members_in Any = None
+members_in (Fixed w) = None
+members_in (Group g) = Some g
 
-abbrev pub members_of : Definition → Members
+abbrev pub members_of : Definition → Option Grammar
 members_of (Known m form) = members_in form
-members_of Unknown = NoMembers
+members_of Unknown = None
 
 -- a group whose data is read
-abbrev pub has_members : Members → Bool
-has_members (Under g) = true
-has_members NoMembers = false
+abbrev pub has_members : Option Grammar → Bool
+has_members (Some g) = true
+has_members None = false
 
 abbrev pub is_group : Definition → Bool
 is_group d = has_members (members_of d)
@@ -113,9 +108,9 @@ list_number TimeWindow = 4204
 list_number TransferPolicy = 4207
 
 -- the number of the list by whose rows members go, 0 for no members
-abbrev pub rows_number : Members → ℕ
-rows_number (Under g) = list_number g
-rows_number NoMembers = 0
+abbrev pub rows_number : Option Grammar → ℕ
+rows_number (Some g) = list_number g
+rows_number None = 0
 
 -- the width of data, 0 where any length passes
 abbrev pub width_of : Form → ℕ

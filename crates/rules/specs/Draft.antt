@@ -5,7 +5,8 @@ use Rattle.rules.specs.declared.Avp.{Avp}
 use Rattle.rules.specs.declared.Record.{Record}
 use Rattle.rules.specs.Octets.{padded}
 use Rattle.rules.specs.Avp.{header_of, end_of}
-use Rattle.rules.specs.Dictionary.{Entry, dictionary}
+use Rattle.rules.specs.declared.Entry.{Entry}
+use Rattle.rules.specs.Dictionary.{dictionary}
 use Rattle.rules.specs.Walk.{most_avps, deepest}
 use Rattle.rules.specs.Record.{reading, recorded}
 use Rattle.rules.specs.Meaning.{Cell, Meaning, is_read_group, cell_of, meaning_over}

@@ -1,16 +1,15 @@
 -- What request [1] claims of answers with E (proofs/demands/ErrorAnswers), and such answers, with commands of the flags
 -- beside theirs, and their verdicts, which are computed in proofs/ErrorEdges. xs are the AVPs of the command's walk.
-use Rattle.std.specs.Prelude.{◌≡◌, Bool, true, false, cond, List, [], ◌∷◌, ◌++◌, ℕ, length}
+use Rattle.std.specs.Prelude.{◌≡◌, Bool, true, false, cond, List, [], ◌∷◌, ◌++◌, ℕ, length, Option, None, Some}
 use Rattle.rules.specs.declared.Avp.{Avp}
-use Rattle.rules.specs.declared.Outcome.TheVariants.{Pass}
 use Rattle.rules.specs.declared.Admission.{Admission}
-use Rattle.rules.specs.declared.Admission.TheVariants.{ByRow, NoRow}
 use Rattle.rules.specs.declared.Grammar.TheVariants.{Request, Answer, ErrorAnswer}
 use Rattle.rules.specs.declared.ExchangeRules.TheVariants.{OfRequest, OfAnswer, WindowsAlone}
 use Rattle.rules.specs.Octets.{octets}
-use Rattle.rules.specs.Verdict.{refused}
+use Rattle.rules.specs.Verdict.{refused, no_refusal}
 use Rattle.rules.specs.Header.{vendor_3gpp, application_nt, command_flags, is_request, is_proxiable, is_error, length_outcome, application_outcome, header_outcome}
-use Rattle.rules.specs.Dictionary.{Entry, dictionary}
+use Rattle.rules.specs.declared.Entry.{Entry}
+use Rattle.rules.specs.Dictionary.{dictionary}
 use Rattle.rules.specs.Walk.{whole}
 use Rattle.rules.specs.RowChecks.{admission, list_outcome, groups_outcome}
 use Rattle.rules.specs.Command.{command_rules, walk_of}
@@ -28,9 +27,9 @@ pub record FlagsJudged (c : List ℕ) : Type 0 where
   pub clear : is_proxiable (command_flags c) ≡ false → is_error (command_flags c) ≡ false
       → header_outcome c ≡ refused 3008 4 0 0
   -- an answer with E, whatever P
-  pub error_answer_lem : is_request (command_flags c) ≡ false → is_error (command_flags c) ≡ true → header_outcome c ≡ Pass
+  pub error_answer_lem : is_request (command_flags c) ≡ false → is_error (command_flags c) ≡ true → header_outcome c ≡ no_refusal
   -- P set without E
-  pub proxiable : is_proxiable (command_flags c) ≡ true → is_error (command_flags c) ≡ false → header_outcome c ≡ Pass
+  pub proxiable : is_proxiable (command_flags c) ≡ true → is_error (command_flags c) ≡ false → header_outcome c ≡ no_refusal
 
 -- what a command is judged by, of each kind
 pub record KindsJudged (c : List ℕ) : Type 0 where
@@ -42,16 +41,16 @@ pub record KindsJudged (c : List ℕ) : Type 0 where
 
 -- an answer with E whose length, version, application and command code pass
 pub record IsErrorAnswer (c : List ℕ) : Type 0 where
-  pub long : length_outcome c ≡ Pass
-  pub known : application_outcome c ≡ Pass
+  pub long : length_outcome c ≡ no_refusal
+  pub known : application_outcome c ≡ no_refusal
   pub not_request : is_request (command_flags c) ≡ false
   pub with_error : is_error (command_flags c) ≡ true
 
 -- its walk is whole, its own list meets the rows of the general form and each group its own, and its windows are right
 pub record MeetsGeneralForm (c : List ℕ) (xs : List Avp) : Type 0 where
   pub walk : walk_of c ≡ whole xs
-  pub own : list_outcome ErrorAnswer 1 (length c) xs ≡ Pass
-  pub groups : groups_outcome dictionary xs ≡ Pass
+  pub own : list_outcome ErrorAnswer 1 (length c) xs ≡ no_refusal
+  pub groups : groups_outcome dictionary xs ≡ no_refusal
   pub windows : AllRight c xs
 
 -- ---- such answers
@@ -145,9 +144,9 @@ erred =
     ∷ []
 
 -- whether a name has a row in the general form
-abbrev pub is_named : Admission → Bool
-is_named (ByRow row mark) = true
-is_named NoRow = false
+abbrev pub is_named : Option Admission → Bool
+is_named (Some a) = true
+is_named None = false
 
 abbrev pub has_row : Entry → Bool
 has_row e = is_named (admission ErrorAnswer e.vendor e.code)

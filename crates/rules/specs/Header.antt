@@ -1,9 +1,7 @@
 -- 01, Header: its fields, and the header's checks in their order.
 use Rattle.std.specs.Prelude.{ℕ, ◌%◌, List, Bool, not, ◌&&◌, ◌||◌, length, get_or, ltb, eqb}
-use Rattle.rules.specs.declared.Outcome.{Outcome}
-use Rattle.rules.specs.declared.Outcome.TheVariants.{Pass}
 use Rattle.rules.specs.Octets.{number_at, flag}
-use Rattle.rules.specs.Verdict.{refused, refuse_if, or_else}
+use Rattle.rules.specs.Verdict.{refused, refuse_if, or_else, Outcome, no_refusal}
 
 -- the header's octets
 abbrev pub header_size : ℕ
@@ -66,21 +64,21 @@ length_outcome s =
     (refuse_if (ltb (length_field s) header_size || not (eqb (length_field s % 4) 0) || not (eqb (length_field s) (length s)))
     (refused 5015 1 0 0)
     (refuse_if (ltb longest_command (length_field s)) (refused 7001 1 0 0)
-    Pass)))
+    no_refusal)))
 
 -- application, then command code
 unfoldable pub application_outcome : List ℕ → Outcome
 application_outcome s =
     refuse_if (not (eqb (application s) application_nt)) (refused 3007 8 0 0)
     (refuse_if (not (eqb (command_code s) code_background_data_transfer)) (refused 3001 5 0 0)
-    Pass)
+    no_refusal)
 
 -- R and E both set; or P clear, without E or with R (02, [1]): in an answer with E it may be clear
 unfoldable pub flags_outcome : ℕ → Outcome
 flags_outcome flags =
     refuse_if (is_request flags && is_error flags || not (is_proxiable flags) && (not (is_error flags) || is_request flags))
     (refused 3008 4 0 0)
-    Pass
+    no_refusal
 
 -- the header's checks together
 unfoldable pub header_outcome : List ℕ → Outcome

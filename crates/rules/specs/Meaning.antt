@@ -3,7 +3,8 @@ use Rattle.std.specs.Prelude.{ℕ, List, [], map, Bool, cond, length, take, drop
 use Rattle.rules.specs.declared.Avp.{Avp}
 use Rattle.rules.specs.declared.Record.{Record}
 use Rattle.rules.specs.Header.{command_flags, is_request, is_proxiable, is_error, is_retransmitted, hop_by_hop, end_to_end}
-use Rattle.rules.specs.Dictionary.{Entry, dictionary, find, is_group}
+use Rattle.rules.specs.declared.Entry.{Entry}
+use Rattle.rules.specs.Dictionary.{dictionary, find, is_group}
 use Rattle.rules.specs.Walk.{avps_of}
 use Rattle.rules.specs.Command.{walk_of}
 use Rattle.rules.specs.Record.{recorded}

@@ -1,12 +1,10 @@
 -- What the demands claim of the answers (proofs/demands/Order): the place, vendor and code that go with a number, and
 -- which check decides, in 01's order, for a command and for a write call.
-use Rattle.std.specs.Prelude.{◌≡◌, ℕ, ◌≤◌, ◌<◌, Bool, true, false, not, ◌&&◌, ◌||◌, List, [], ◌∷◌, eqb, length}
+use Rattle.std.specs.Prelude.{◌≡◌, ℕ, ◌≤◌, ◌<◌, Bool, true, false, not, ◌&&◌, ◌||◌, List, [], ◌∷◌, eqb, length, Err}
 use Rattle.rules.specs.declared.Avp.{Avp}
 use Rattle.rules.specs.declared.Verdict.{Verdict}
 use Rattle.rules.specs.declared.Written.{Written}
-use Rattle.rules.specs.declared.Outcome.{Outcome}
-use Rattle.rules.specs.declared.Outcome.TheVariants.{Pass, Refused}
-use Rattle.rules.specs.Verdict.{writer_only_numbers, is_among, verdict}
+use Rattle.rules.specs.Verdict.{writer_only_numbers, is_among, verdict, Outcome, no_refusal}
 use Rattle.rules.specs.Header.{header_outcome, longest_command}
 use Rattle.rules.specs.Dictionary.{dictionary}
 use Rattle.rules.specs.Walk.{whole, stopped}
@@ -55,22 +53,22 @@ windows c xs = each_window xs c 0 xs
 
 -- over the AVPs of a walk without fault, the first of them that refuses is the answer
 pub record FirstListFault (c : List ℕ) (xs : List Avp) : Type 0 where
-  pub own : (v : Verdict) → own_rows c xs ≡ Refused v → command_verdict c ≡ v
-  pub groups : (v : Verdict) → own_rows c xs ≡ Pass → group_rows c xs ≡ Refused v → command_verdict c ≡ v
-  pub rules : (v : Verdict) → own_rows c xs ≡ Pass → group_rows c xs ≡ Pass → exchange c xs ≡ Refused v
+  pub own : (v : Verdict) → own_rows c xs ≡ Err v → command_verdict c ≡ v
+  pub groups : (v : Verdict) → own_rows c xs ≡ no_refusal → group_rows c xs ≡ Err v → command_verdict c ≡ v
+  pub rules : (v : Verdict) → own_rows c xs ≡ no_refusal → group_rows c xs ≡ no_refusal → exchange c xs ≡ Err v
       → command_verdict c ≡ v
-  pub times : (v : Verdict) → own_rows c xs ≡ Pass → group_rows c xs ≡ Pass → exchange c xs ≡ Pass
-      → windows c xs ≡ Refused v → command_verdict c ≡ v
+  pub times : (v : Verdict) → own_rows c xs ≡ no_refusal → group_rows c xs ≡ no_refusal → exchange c xs ≡ no_refusal
+      → windows c xs ≡ Err v → command_verdict c ≡ v
   -- none applies
-  pub none : own_rows c xs ≡ Pass → group_rows c xs ≡ Pass → exchange c xs ≡ Pass → windows c xs ≡ Pass
+  pub none : own_rows c xs ≡ no_refusal → group_rows c xs ≡ no_refusal → exchange c xs ≡ no_refusal → windows c xs ≡ no_refusal
       → command_verdict c ≡ verdict 0 0 0 0
 
 -- 01, Order of checks: the first that applies is the answer
 pub record FirstFault (c : List ℕ) : Type 0 where
-  pub header : (v : Verdict) → header_outcome c ≡ Refused v → command_verdict c ≡ v
+  pub header : (v : Verdict) → header_outcome c ≡ Err v → command_verdict c ≡ v
   -- a fault of the walk, whatever the AVPs before it are
-  pub walk : (xs : List Avp) (v : Verdict) → header_outcome c ≡ Pass → walk_of c ≡ stopped xs v → command_verdict c ≡ v
-  pub lists : (xs : List Avp) → header_outcome c ≡ Pass → walk_of c ≡ whole xs → FirstListFault c xs
+  pub walk : (xs : List Avp) (v : Verdict) → header_outcome c ≡ no_refusal → walk_of c ≡ stopped xs v → command_verdict c ≡ v
+  pub lists : (xs : List Avp) → header_outcome c ≡ no_refusal → walk_of c ≡ whole xs → FirstListFault c xs
 
 -- the answer of a call that the writer refuses itself: place, vendor and code are 0, and the length
 abbrev pub own_refusal : ℕ → Written

@@ -1,8 +1,8 @@
 -- What request [9] claims of the transfer policies of an answer (proofs/demands/Policies): which answers are refused
 -- for them, by the number of 4207 in the command's own list. xs are the AVPs of the command's walk.
 use Rattle.std.specs.Prelude.{◌≡◌, false, List, ℕ, ◌≤◌, length}
+use Rattle.rules.specs.Verdict.{no_refusal}
 use Rattle.rules.specs.declared.Avp.{Avp}
-use Rattle.rules.specs.declared.Outcome.TheVariants.{Pass}
 use Rattle.rules.specs.Header.{vendor_3gpp, header_outcome, command_flags, is_request, is_error}
 use Rattle.rules.specs.Walk.{whole}
 use Rattle.rules.specs.Search.{first, how_many, NoAvp}
@@ -18,12 +18,12 @@ pub record IsAnswer (c : List ℕ) : Type 0 where
 
 -- one that passes all checks before those of its policies, with at least so many of them
 pub record Offers (c : List ℕ) (xs : List Avp) (least : ℕ) : Type 0 where
-  pub header : header_outcome c ≡ Pass
+  pub header : header_outcome c ≡ no_refusal
   pub walk : walk_of c ≡ whole xs
-  pub own : own_rows c xs ≡ Pass
-  pub groups : group_rows c xs ≡ Pass
+  pub own : own_rows c xs ≡ no_refusal
+  pub groups : group_rows c xs ≡ no_refusal
   pub answer : IsAnswer c
-  pub result : result_outcome (first xs) xs (length c) ≡ Pass
+  pub result : result_outcome (first xs) xs (length c) ≡ no_refusal
   pub policies : least ≤ how_many 1 vendor_3gpp 4207 xs
 
 -- with any 4207, and without 4202

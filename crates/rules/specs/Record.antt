@@ -1,10 +1,9 @@
 -- 01, The record: the record of an accepted command, the empty record, data of a position, and the search.
-use Rattle.std.specs.Prelude.{◌≡◌, ℕ, ◌-◌, ◌<◌, min, List, ◌++◌, Bool, cond, ◌&&◌, length, take, drop, replicate, ltb, leb}
+use Rattle.std.specs.Prelude.{◌≡◌, ℕ, ◌-◌, ◌<◌, min, List, ◌++◌, Bool, cond, ◌&&◌, length, take, drop, replicate, ltb, leb, Err, Ok}
+use Rattle.rules.specs.Verdict.{Outcome}
 use Rattle.rules.specs.declared.Avp.{Avp}
 use Rattle.rules.specs.declared.Record.{Record}
 use Rattle.rules.specs.declared.Reading.{Reading}
-use Rattle.rules.specs.declared.Outcome.{Outcome}
-use Rattle.rules.specs.declared.Outcome.TheVariants.{Pass, Refused}
 use Rattle.rules.specs.declared.Sought.{Sought}
 use Rattle.rules.specs.Header.{command_flags, hop_by_hop, end_to_end, is_request, is_proxiable, is_error, is_retransmitted}
 use Rattle.rules.specs.Avp.{end_of}
@@ -44,8 +43,8 @@ empty_record = record {
 
 -- the record that comes back: with a refusal the empty one
 abbrev pub record_by : List ℕ → Outcome → Record
-record_by s Pass = record_of s (avps_of (walk_of s))
-record_by s (Refused v) = empty_record
+record_by s (Ok u) = record_of s (avps_of (walk_of s))
+record_by s (Err v) = empty_record
 
 -- what reading a slice of octets gives
 unfoldable pub reading : List ℕ → Reading

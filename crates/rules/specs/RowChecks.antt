@@ -1,29 +1,29 @@
 -- 01, Order of checks, Rows: the command's list, then each group in walk order; within a list the members in order,
 -- then the first missing row. The dictionary and the command's rows are arguments.
-use Rattle.std.specs.Prelude.{ℕ, ◌+◌, List, [], ◌∷◌, Bool, true, false, cond, ◌&&◌, get_or, set, replicate, ltb, eqb}
+use Rattle.std.specs.Prelude.{ℕ, ◌+◌, List, [], ◌∷◌, Bool, true, false, cond, ◌&&◌, get_or, set, replicate, ltb, eqb, Option, Some, None}
 use Rattle.rules.specs.declared.Avp.{Avp}
-use Rattle.rules.specs.declared.Outcome.{Outcome}
-use Rattle.rules.specs.declared.Outcome.TheVariants.{Pass}
-use Rattle.rules.specs.declared.Members.{Members}
-use Rattle.rules.specs.declared.Members.TheVariants.{Under, NoMembers}
 use Rattle.rules.specs.declared.Mark.{Mark}
 use Rattle.rules.specs.declared.Mark.TheVariants.{First, FirstIfPresent, Once, AtMostOnce, AnyNumber}
 use Rattle.rules.specs.declared.Admission.{Admission}
-use Rattle.rules.specs.declared.Admission.TheVariants.{ByRow, NoRow}
 use Rattle.rules.specs.declared.Grammar.{Grammar}
-use Rattle.rules.specs.Verdict.{refused, refuse_if, or_else}
+use Rattle.rules.specs.Verdict.{refused, refuse_if, or_else, Outcome, no_refusal}
 use Rattle.rules.specs.Avp.{place_of, end_of}
 use Rattle.rules.specs.Rows.{Row, rows_of, admits_others}
-use Rattle.rules.specs.Dictionary.{Entry, defined, members_of}
+use Rattle.rules.specs.declared.Entry.{Entry}
+use Rattle.rules.specs.Dictionary.{defined, members_of}
+
+-- a row that admits a name: its position among the rows, and its mark
+abbrev pub by_row : ℕ → Mark → Option Admission
+by_row row mark = Some (record { row = row; mark = mark })
 
 -- the row that names an AVP, counted from i
-unfoldable pub admission_from : ℕ → List Row → ℕ → ℕ → Admission
-admission_from i [] vendor code = NoRow
+unfoldable pub admission_from : ℕ → List Row → ℕ → ℕ → Option Admission
+admission_from i [] vendor code = None
 admission_from i (r ∷ rs) vendor code =
-    cond (eqb vendor r.vendor && eqb code r.code) (ByRow i r.mark) (admission_from (i + 1) rs vendor code)
+    cond (eqb vendor r.vendor && eqb code r.code) (by_row i r.mark) (admission_from (i + 1) rs vendor code)
 
 -- the row of a list that names an AVP
-abbrev pub admission : Grammar → ℕ → ℕ → Admission
+abbrev pub admission : Grammar → ℕ → ℕ → Option Admission
 admission g vendor code = admission_from 0 (rows_of g) vendor code
 
 -- a row count per list: how often each row has been met. Of the 24 counts the longest list, of 23 rows, uses all but
@@ -36,9 +36,9 @@ abbrev pub counted_at : List ℕ → ℕ → List ℕ
 counted_at counts row = set counts row (get_or counts row 0 + 1)
 
 -- the counts with one more member, by the row that admits it
-abbrev pub counted : List ℕ → Admission → List ℕ
-counted counts (ByRow row mark) = counted_at counts row
-counted counts NoRow = counts
+abbrev pub counted : List ℕ → Option Admission → List ℕ
+counted counts (Some a) = counted_at counts a.row
+counted counts None = counts
 
 -- a refusal at an AVP that is there: its first octet, vendor and code
 abbrev pub member_fault : ℕ → Avp → Outcome
@@ -46,16 +46,16 @@ member_fault number a = refused number (place_of a) a.vendor a.code
 
 -- a member that has a row: `met` says that the row was met before, `first` that the member is the list's first
 abbrev pub by_mark : Mark → Bool → Bool → Avp → Outcome
-by_mark First met first a = cond met (member_fault 5009 a) (cond first Pass (member_fault 5008 a))
-by_mark FirstIfPresent met first a = cond met (member_fault 5009 a) (cond first Pass (member_fault 5008 a))
-by_mark Once met first a = cond met (member_fault 5009 a) Pass
-by_mark AtMostOnce met first a = cond met (member_fault 5009 a) Pass
-by_mark AnyNumber met first a = Pass
+by_mark First met first a = cond met (member_fault 5009 a) (cond first no_refusal (member_fault 5008 a))
+by_mark FirstIfPresent met first a = cond met (member_fault 5009 a) (cond first no_refusal (member_fault 5008 a))
+by_mark Once met first a = cond met (member_fault 5009 a) no_refusal
+by_mark AtMostOnce met first a = cond met (member_fault 5009 a) no_refusal
+by_mark AnyNumber met first a = no_refusal
 
 -- a member that is not admitted is 5008, one that exceeds its row 5009
-abbrev pub by_admission : Bool → List ℕ → Bool → Avp → Admission → Outcome
-by_admission others counts first a (ByRow row mark) = by_mark mark (ltb 0 (get_or counts row 0)) first a
-by_admission others counts first a NoRow = cond others Pass (member_fault 5008 a)
+abbrev pub by_admission : Bool → List ℕ → Bool → Avp → Option Admission → Outcome
+by_admission others counts first a (Some by) = by_mark by.mark (ltb 0 (get_or counts by.row 0)) first a
+by_admission others counts first a None = cond others no_refusal (member_fault 5008 a)
 
 -- one member, by the row that names it
 unfoldable pub member_outcome : Grammar → List ℕ → Bool → Avp → Outcome
@@ -71,7 +71,7 @@ is_required AnyNumber = false
 
 -- the first missing row, in the printed order, counted from i, is 5005 at the end of the list
 unfoldable pub missing_from : ℕ → List Row → List ℕ → ℕ → Outcome
-missing_from i [] counts end = Pass
+missing_from i [] counts end = no_refusal
 missing_from i (r ∷ rs) counts end =
     refuse_if (is_required r.mark && eqb (get_or counts i 0) 0) (refused 5005 end r.vendor r.code)
     (missing_from (i + 1) rs counts end)
@@ -98,13 +98,13 @@ abbrev pub list_outcome : Grammar → ℕ → ℕ → List Avp → Outcome
 list_outcome g depth end xs = members_outcome g end none_met true (members_at depth xs)
 
 -- an AVP of the walk with those after it: where it has members, its list
-abbrev pub group_outcome : Members → Avp → List Avp → Outcome
-group_outcome (Under g) a xs = list_outcome g (a.depth + 1) (end_of a) xs
-group_outcome NoMembers a xs = Pass
+abbrev pub group_outcome : Option Grammar → Avp → List Avp → Outcome
+group_outcome (Some g) a xs = list_outcome g (a.depth + 1) (end_of a) xs
+group_outcome None a xs = no_refusal
 
 -- each group in walk order
 unfoldable pub groups_outcome : List Entry → List Avp → Outcome
-groups_outcome dict [] = Pass
+groups_outcome dict [] = no_refusal
 groups_outcome dict (a ∷ xs) = or_else (group_outcome (members_of (defined dict a)) a xs) (groups_outcome dict xs)
 
 -- the command's list, which ends at `end`, then each group in walk order

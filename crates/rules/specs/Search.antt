@@ -1,8 +1,6 @@
 -- 01, The record, and request [9]: positions among the AVPs of a walk, and the search. The exchange rules use it too.
-use Rattle.std.specs.Prelude.{◌≡◌, ℕ, zero, suc, ◌+◌, ◌≤◌, ◌<◌, List, [], ◌∷◌, Bool, true, false, cond, ◌&&◌, length, get_or, take, drop, ltb, eqb}
+use Rattle.std.specs.Prelude.{◌≡◌, ℕ, zero, suc, ◌+◌, ◌≤◌, ◌<◌, List, [], ◌∷◌, Bool, true, false, cond, ◌&&◌, length, get_or, take, drop, ltb, eqb, Option, Some, None}
 use Rattle.rules.specs.declared.Avp.{Avp}
-use Rattle.rules.specs.declared.Found.{Found}
-use Rattle.rules.specs.declared.Found.TheVariants.{At, Nothing}
 use Rattle.rules.specs.declared.Sought.{Sought}
 use Rattle.rules.specs.Avp.{named}
 use Rattle.rules.specs.Walk.{most_avps}
@@ -33,13 +31,13 @@ positions_from i floor depth (a ∷ xs) vendor code =
     (with_position (is_at a depth vendor code) i (positions_from (i + 1) floor depth xs vendor code))
 
 -- the one of some positions with an ordinal, counted from 0; none where the ordinal is not below their number
-abbrev pub nth : List ℕ → ℕ → Found
-nth [] ordinal = Nothing
-nth (i ∷ is) zero = At i
+abbrev pub nth : List ℕ → ℕ → Option ℕ
+nth [] ordinal = None
+nth (i ∷ is) zero = Some i
 nth (i ∷ is) (suc ordinal) = nth is ordinal
 
 -- the first of them
-abbrev pub first_from : ℕ → ℕ → ℕ → List Avp → ℕ → ℕ → Found
+abbrev pub first_from : ℕ → ℕ → ℕ → List Avp → ℕ → ℕ → Option ℕ
 first_from i floor depth xs vendor code = nth (positions_from i floor depth xs vendor code) 0
 
 -- the AVPs at depth 1 with a vendor and code, which are members of the command's own list, by their positions in order
@@ -52,17 +50,17 @@ search xs vendor code ordinal =
     record { found = nth (positions xs vendor code) ordinal; number = length (positions xs vendor code) }
 
 -- 01's search: the first AVP at depth 1 with a vendor and code
-abbrev pub first : List Avp → ℕ → ℕ → Found
+abbrev pub first : List Avp → ℕ → ℕ → Option ℕ
 first xs vendor code = (search xs vendor code 0).found
 
 -- the first member of the group at position i, whose members stand at this depth
-abbrev pub member : List Avp → ℕ → ℕ → ℕ → ℕ → Found
+abbrev pub member : List Avp → ℕ → ℕ → ℕ → ℕ → Option ℕ
 member xs i depth vendor code = first_from (i + 1) depth depth (drop (i + 1) xs) vendor code
 
 -- what a search finds as a number: the position, and the number of places for none
-abbrev pub position_of : Found → ℕ
-position_of (At i) = i
-position_of Nothing = most_avps
+abbrev pub position_of : Option ℕ → ℕ
+position_of (Some i) = i
+position_of None = most_avps
 
 -- ---- what is claimed (proofs/demands/Nth, Found)
 

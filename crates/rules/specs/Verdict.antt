@@ -1,8 +1,6 @@
 -- What comes back (01, What comes back), and how the first fault is the answer.
-use Rattle.std.specs.Prelude.{◌≡◌, ℕ, List, [], ◌∷◌, ◌++◌, Bool, false, cond, ◌||◌, eqb}
+use Rattle.std.specs.Prelude.{◌≡◌, ℕ, List, [], ◌∷◌, ◌++◌, Bool, false, cond, ◌||◌, eqb, Result, Ok, Err}
 use Rattle.rules.specs.declared.Verdict.{Verdict}
-use Rattle.rules.specs.declared.Outcome.{Outcome}
-use Rattle.rules.specs.declared.Outcome.TheVariants.{Pass, Refused}
 
 -- the table: the numbers of the reader's refusals. Those from 7001 are the lab's and never go on the wire
 unfoldable pub reader_numbers : List ℕ
@@ -33,9 +31,16 @@ is_among (m ∷ ms) n = eqb n m || is_among ms n
 abbrev pub verdict : ℕ → ℕ → ℕ → ℕ → Verdict
 verdict number place vendor code = record { number = number; place = place; vendor = vendor; code = code }
 
+-- what some of the checks say of a command: it passes, or the refusal
+abbrev pub Outcome : Type 0
+Outcome = Result Unit Verdict
+
+abbrev pub no_refusal : Outcome
+no_refusal = Ok tt
+
 -- a refusal at a place, with the vendor and code of the AVP at fault
 abbrev pub refused : ℕ → ℕ → ℕ → ℕ → Outcome
-refused number place vendor code = Refused (verdict number place vendor code)
+refused number place vendor code = Err (verdict number place vendor code)
 
 -- a check: where the test holds, the command is refused so, else the checks go on
 abbrev pub refuse_if : Bool → Outcome → Outcome → Outcome
@@ -43,8 +48,8 @@ refuse_if = cond
 
 -- the first that applies is the answer
 abbrev pub or_else : Outcome → Outcome → Outcome
-or_else Pass o = o
-or_else (Refused v) o = Refused v
+or_else (Ok u) o = o
+or_else (Err v) o = Err v
 
 -- accepted is the number 0, as a test and as a claim
 abbrev pub is_accepted : Verdict → Bool
@@ -55,8 +60,8 @@ Accepted v = v.number ≡ 0
 
 -- the verdict of an outcome; accepted: number, place, vendor and code 0
 abbrev pub verdict_of : Outcome → Verdict
-verdict_of Pass = verdict 0 0 0 0
-verdict_of (Refused v) = v
+verdict_of (Ok u) = verdict 0 0 0 0
+verdict_of (Err v) = v
 
 -- 01, Forms, last paragraph: what a function promises whose answer is an enum. It is this answer, and it has this
 -- answer's number and values in 01, which `values` gives for each case

@@ -1,19 +1,15 @@
 -- 01, Order of checks, Walk: the seven checks of an AVP, each in 01's words and order, and the walk of a list, which
 -- gives the AVPs in walk order or stops at the first fault. The dictionary is an argument throughout; an AVP's fields
 -- are in Avp.
-use Rattle.std.specs.Prelude.{ℕ, zero, suc, ◌+◌, ◌-◌, ◌%◌, List, [], ◌∷◌, ◌++◌, Bool, true, false, cond, not, ◌&&◌, ◌||◌, length, ltb, leb, eqb}
+use Rattle.std.specs.Prelude.{ℕ, zero, suc, ◌+◌, ◌-◌, ◌%◌, List, [], ◌∷◌, ◌++◌, Bool, true, false, cond, not, ◌&&◌, ◌||◌, length, ltb, leb, eqb, Err, Ok}
 use Rattle.rules.specs.declared.Avp.{Avp}
 use Rattle.rules.specs.declared.Verdict.{Verdict}
-use Rattle.rules.specs.declared.Outcome.{Outcome}
-use Rattle.rules.specs.declared.Outcome.TheVariants.{Pass, Refused}
-use Rattle.rules.specs.declared.Checked.{Checked}
-use Rattle.rules.specs.declared.Checked.TheVariants.{Fault, Plain, Group}
-use Rattle.rules.specs.declared.Definition.{Definition}
 use Rattle.rules.specs.Octets.{number_at, padded}
-use Rattle.rules.specs.Verdict.{verdict, refused, refuse_if}
+use Rattle.rules.specs.Verdict.{verdict, refused, refuse_if, Outcome, no_refusal}
 use Rattle.rules.specs.Header.{vendor_3gpp}
 use Rattle.rules.specs.Avp.{code_at, flags_at, flag_v, length_at, header_of, vendor_at, next_at, avp_at, named, end_of}
-use Rattle.rules.specs.Dictionary.{Entry, defined, requires_m, is_known, is_group, fits_width}
+use Rattle.rules.specs.declared.Entry.{Entry}
+use Rattle.rules.specs.Dictionary.{defined, requires_m, is_known, is_group, fits_width, Definition}
 
 -- where a walk stands: at a place of a list that ends at `end` and is at this depth, with `count` AVPs in the record
 pub record Standing : Type 0 where
@@ -50,7 +46,7 @@ framing s at end =
     (refuse_if (ltb (length_at s at) (header_of (flag_v (flags_at s at)))) (refused 5014 at (vendor_at s at) (code_at s at))
     -- a padded length beyond the list
     (refuse_if (ltb (end - at) (padded (length_at s at))) (refused 5014 at (vendor_at s at) (code_at s at))
-    Pass)))
+    no_refusal)))
 
 -- check 3, of the AVP's flags octet
 unfoldable pub wrong_flags : ℕ → Avp → Definition → Bool
@@ -91,12 +87,18 @@ contents s at a d =
     (refuse_if (wrong_width a d) (refused 5014 at a.vendor a.code)
     (refuse_if (wrong_value a (number_at 4 s a.start)) (refused 5004 at a.vendor a.code)
     (refuse_if (too_deep a d) (refused 7003 at a.vendor a.code)
-    Pass))))
+    no_refusal))))
+
+-- what the checks say of an AVP: the fault, an AVP that holds no list, or a group whose data is read as a list
+pub data Checked : Type 0 where
+  Fault : Verdict → Checked
+  Plain : Avp → Checked
+  Group : Avp → Checked
 
 -- a refusal is the answer, else the AVP
 abbrev pub settled : Outcome → Checked → Checked
-settled Pass c = c
-settled (Refused v) c = Fault v
+settled (Ok u) c = c
+settled (Err v) c = Fault v
 
 -- checks 3 to 7 of an AVP, and whether its data is a list
 abbrev pub checked_avp : List Entry → List ℕ → ℕ → Avp → Checked
@@ -121,8 +123,8 @@ avps_of (stopped xs v) = xs
 
 -- what a walk says of its command: no fault so far, or the fault at which it stopped
 abbrev pub stop_of : Walked → Outcome
-stop_of (whole xs) = Pass
-stop_of (stopped xs v) = Refused v
+stop_of (whole xs) = no_refusal
+stop_of (stopped xs v) = Err v
 
 -- a walk with AVPs before it
 abbrev pub after : List Avp → Walked → Walked

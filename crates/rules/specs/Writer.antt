@@ -1,9 +1,7 @@
 -- 01, The record and the writer: what a write call answers and leaves behind.
-use Rattle.std.specs.Prelude.{ℕ, List, [], ◌++◌, not, length, drop, ltb}
+use Rattle.std.specs.Prelude.{ℕ, List, [], ◌++◌, not, length, drop, ltb, Err, Ok}
 use Rattle.rules.specs.declared.Written.{Written}
-use Rattle.rules.specs.declared.Outcome.{Outcome}
-use Rattle.rules.specs.declared.Outcome.TheVariants.{Pass, Refused}
-use Rattle.rules.specs.Verdict.{refused, refuse_if, or_else, verdict_of}
+use Rattle.rules.specs.Verdict.{refused, refuse_if, or_else, verdict_of, Outcome, no_refusal}
 use Rattle.rules.specs.Header.{longest_command}
 use Rattle.rules.specs.Command.{command_outcome}
 use Rattle.rules.specs.Wire.{command_octets}
@@ -19,7 +17,7 @@ own_outcome d room =
     refuse_if (not (is_well_formed d)) (refused 7006 0 0 0)
     (refuse_if (ltb longest_command (length (draft_octets d))) (refused 7001 0 0 0)
     (refuse_if (ltb room (length (draft_octets d))) (refused 7004 0 0 0)
-    Pass))
+    no_refusal))
 
 -- then the refusal that the reader gives to those octets
 unfoldable pub draft_outcome : Draft → ℕ → Outcome
@@ -27,8 +25,8 @@ draft_outcome d room = or_else (own_outcome d room) (command_outcome (draft_octe
 
 -- the octets that a call writes
 abbrev pub octets_by : Outcome → List ℕ → List ℕ
-octets_by Pass s = s
-octets_by (Refused v) s = []
+octets_by (Ok u) s = s
+octets_by (Err v) s = []
 
 unfoldable pub octets_written : Draft → ℕ → List ℕ
 octets_written d room = octets_by (draft_outcome d room) (draft_octets d)

@@ -6,9 +6,11 @@ pub mod flags;
 pub mod limits;
 
 // What comes back for a command (01, What comes back): the number, 0 where it is accepted, the place, and the Vendor-Id
-// and code of the AVP at fault.
+// and code of the AVP at fault. The number is one of 01's, which each definition of a check names in its answer
+// (`refused 5008 ..`), the C interface gives, and `avp::refusal` takes whatever it is: an enum would be turned into it
+// at once.
 #[repr(C)]
-#[derive(Clone, Copy)]
+#[derive(Clone, Copy, Debug, Default, PartialEq, Eq)]
 pub struct Verdict {
     pub number: u32,
     pub place: u32,
@@ -16,15 +18,12 @@ pub struct Verdict {
     pub code: u32,
 }
 
-// What some of the checks say of a command.
-#[derive(Clone, Copy)]
-pub enum Outcome {
-    Pass,
-    Refused(Verdict),
-}
+// What some of the checks say of a command: that it passes, or the refusal.
+pub type Outcome = Result<(), Verdict>;
 
-// An AVP of the record: depth (1 in the command's own list), name, the flags M and P, and its data.
-#[derive(Clone, Copy)]
+// An AVP of the record: depth (1 in the command's own list), name, the flags M and P, and its data. Vendor and code are
+// two fields, as `Verdict` and the C interface have them.
+#[derive(Clone, Copy, Debug, Default, PartialEq, Eq)]
 pub struct Avp {
     pub depth: u32,
     pub vendor: u32,
@@ -35,8 +34,9 @@ pub struct Avp {
     pub length: u32,
 }
 
-// The record of a command: command flags, identifiers, and room for 256 AVPs, of which `count` are used.
-#[derive(Clone, Copy)]
+// The record of a command: command flags, identifiers, and room for 256 AVPs, of which `count` are used. Memory is
+// fixed: 01 asks for this room.
+#[derive(Clone, Copy, Debug, PartialEq, Eq)]
 pub struct Record {
     pub r: bool,
     pub p: bool,
@@ -48,38 +48,32 @@ pub struct Record {
     pub avps: [Avp; limits::MOST_AVPS],
 }
 
-// What reading a command gives. With a refusal the record is the empty one.
-#[derive(Clone, Copy)]
+// What reading a command gives. It is no Result: 01 gives the empty record with every refusal (`reading`).
+#[derive(Clone, Copy, Debug, PartialEq, Eq)]
 pub struct Reading {
     pub verdict: Verdict,
     pub record: Record,
 }
 
-// What writing a draft gives: the verdict, and how many octets were written, none with a refusal.
+// What writing a draft gives: the verdict, and how many octets were written, none with a refusal. It is no Result: it
+// crosses the C interface.
 #[repr(C)]
-#[derive(Clone, Copy)]
+#[derive(Clone, Copy, Debug, PartialEq, Eq)]
 pub struct Written {
     pub verdict: Verdict,
     pub length: u32,
 }
 
-// What a search finds: a position of the record, or none.
-#[derive(Clone, Copy)]
-pub enum Found {
-    At(usize),
-    Nothing,
-}
-
 // The answer of a search for the nth AVP at depth 1 with a vendor and code (02, [9]): what it finds, and how many of
 // them there are, which is told with none too.
-#[derive(Clone, Copy)]
+#[derive(Clone, Copy, Debug, PartialEq, Eq)]
 pub struct Sought {
-    pub found: Found,
+    pub found: Option<usize>,
     pub number: usize,
 }
 
 // The lists that have rows: the request, the answer, each grouped AVP that is read, and the answer with E (02, [1]).
-#[derive(Clone, Copy)]
+#[derive(Clone, Copy, Debug, PartialEq, Eq)]
 pub enum Grammar {
     Request,
     Answer,
@@ -94,7 +88,7 @@ pub enum Grammar {
 
 // The exchange rules that apply to a command: those of a request or of an answer, each with the window rule; or the
 // window rule alone (02, [1]).
-#[derive(Clone, Copy)]
+#[derive(Clone, Copy, Debug, PartialEq, Eq)]
 pub enum ExchangeRules {
     OfRequest,
     OfAnswer,
@@ -102,38 +96,32 @@ pub enum ExchangeRules {
 }
 
 // What a command is judged by, chosen from its header: the rows of its own list, and the exchange rules.
-#[derive(Clone, Copy)]
+#[derive(Clone, Copy, Debug, PartialEq, Eq)]
 pub struct CommandRules {
     pub rows: Grammar,
     pub exchange: ExchangeRules,
 }
 
 // The form of an AVP's data: of any length, of a fixed width, or a list of AVPs that is read.
-#[derive(Clone, Copy)]
+#[derive(Clone, Copy, Debug, PartialEq, Eq)]
 pub enum Form {
     Any,
     Fixed(u32),
     Group(Grammar),
 }
 
-// What the dictionary says of a name: whether M must be set, and the form of the data. The rules are defined by it; the
-// code asks the facts one by one, by the number of an entry.
-#[derive(Clone, Copy)]
-pub enum Definition {
-    Known { m: bool, form: Form },
-    Unknown,
-}
-
-// What a group's members go by: the rows of a list, or nothing, where the data is not read as a list.
-#[derive(Clone, Copy)]
-pub enum Members {
-    Under(Grammar),
-    NoMembers,
+// An entry of the dictionary: the name, whether M must be set, and the form of the data.
+#[derive(Clone, Copy, Debug, PartialEq, Eq)]
+pub struct Entry {
+    pub vendor: u32,
+    pub code: u32,
+    pub m: bool,
+    pub form: Form,
 }
 
 // The mark of a row: ! first and once, 1 once, ? at most once, * any number; and that of request [1], at most once and
 // first if present.
-#[derive(Clone, Copy)]
+#[derive(Clone, Copy, Debug, PartialEq, Eq)]
 pub enum Mark {
     First,
     FirstIfPresent,
@@ -142,17 +130,9 @@ pub enum Mark {
     AnyNumber,
 }
 
-// The row that admits a name in a list: its position among the rows and its mark, or none.
-#[derive(Clone, Copy)]
-pub enum Admission {
-    ByRow { row: usize, mark: Mark },
-    NoRow,
-}
-
-// What the walk's checks say of an AVP: the fault, an AVP that holds no list, or a group whose data is read as a list.
-#[derive(Clone, Copy)]
-pub enum Checked {
-    Fault(Verdict),
-    Plain(Avp),
-    Group(Avp),
+// The row that admits a name in a list: its position among the rows, and its mark.
+#[derive(Clone, Copy, Debug, PartialEq, Eq)]
+pub struct Admission {
+    pub row: usize,
+    pub mark: Mark,
 }

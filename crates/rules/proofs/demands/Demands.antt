@@ -8,9 +8,8 @@ use mathlib.Core.Logic.{◌↔◌}
 use mathlib.Core.List.{List, ◌∷◌}
 use Prim.Native.Nat.{ℕ, ◌≤◌}
 use lib.ListN.{length}
-use Rattle.rules.specs.declared.Outcome.TheVariants.{Pass}
 use Rattle.rules.specs.Octets.{AreOctets}
-use Rattle.rules.specs.Verdict.{reader_numbers, writer_only_numbers, writer_numbers, is_among}
+use Rattle.rules.specs.Verdict.{reader_numbers, writer_only_numbers, writer_numbers, is_among, no_refusal}
 use Rattle.rules.specs.Command.{command_outcome, command_verdict}
 use Rattle.rules.specs.Record.{empty_record, reading}
 use Rattle.rules.specs.Meaning.{meaning_of, meaning_over}
@@ -62,10 +61,10 @@ demand_1_refused_write d out n =
 -- Carried by what carries demand_1_reader_number, since the table's refusals lack 0.
 -- Ruled out: a refusal with the number 0, which the night script would take for a pass; an accepted command that
 -- comes back with the number of some fault.
-pub demand_2_accepted : (c : List ℕ) → AcceptedCommand c ↔ (command_outcome c ≡ Pass)
+pub demand_2_accepted : (c : List ℕ) → AcceptedCommand c ↔ (command_outcome c ≡ no_refusal)
 demand_2_accepted = command_number
 
-pub demand_2_accepted_write : (d : Draft) (out : List ℕ) → AcceptedWrite d out ↔ (draft_outcome d (length out) ≡ Pass)
+pub demand_2_accepted_write : (d : Draft) (out : List ℕ) → AcceptedWrite d out ↔ (draft_outcome d (length out) ≡ no_refusal)
 demand_2_accepted_write = draft_number
 
 -- 01: "The returned record, over the command's octets, has the command's meaning."

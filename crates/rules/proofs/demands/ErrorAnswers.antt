@@ -7,8 +7,7 @@ use mathlib.Core.List.{List}
 use Prim.Native.Nat.{ℕ}
 use lib.ListN.{length}
 use Rattle.rules.specs.declared.Avp.{Avp}
-use Rattle.rules.specs.declared.Outcome.TheVariants.{Pass}
-use Rattle.rules.specs.Verdict.{reader_numbers, writer_only_numbers, is_among, verdict, or_else}
+use Rattle.rules.specs.Verdict.{reader_numbers, writer_only_numbers, is_among, verdict, or_else, no_refusal}
 use Rattle.rules.specs.Header.{vendor_3gpp, command_flags, is_request, is_proxiable, length_outcome, application_outcome, flags_outcome, header_outcome}
 use Rattle.rules.specs.Avp.{place_of}
 use Rattle.rules.specs.Walk.{whole}
@@ -30,14 +29,14 @@ use Rattle.rules.proofs.demands.Windows.{pass_all_right, request_5_refused, requ
 -- ---- the header
 
 -- where length, version, application and command code pass, the command flags are the answer
-by_flags : (c : List ℕ) → length_outcome c ≡ Pass → application_outcome c ≡ Pass → header_outcome c ≡ flags_outcome (command_flags c)
+by_flags : (c : List ℕ) → length_outcome c ≡ no_refusal → application_outcome c ≡ no_refusal → header_outcome c ≡ flags_outcome (command_flags c)
 unfolding header_outcome
 by_flags c long known = rw (long, known)
 
 -- 02 [1]: "P may be clear here [...] 3008 for a clear P only without E or with R", and R with E is 3008, as in 01.
 -- Carried by the laws of the command flags (rules/proofs/Header); the four cases are all that there are.
 -- Ruled out: a reader that refuses a clear P with E; one that reads a request with E as an error answer.
-pub request_1_flags : (c : List ℕ) → length_outcome c ≡ Pass → application_outcome c ≡ Pass → FlagsJudged c
+pub request_1_flags : (c : List ℕ) → length_outcome c ≡ no_refusal → application_outcome c ≡ no_refusal → FlagsJudged c
 request_1_flags c long known =
     let f = command_flags c in
     let by = by_flags c long known in
@@ -74,7 +73,7 @@ unfolding reader_numbers writer_only_numbers
 request_1_number = (refl, refl)
 
 module _ (c : List ℕ) (is : IsErrorAnswer c) where
-  header_passes : header_outcome c ≡ Pass
+  header_passes : header_outcome c ≡ no_refusal
   header_passes = (request_1_flags c is.long is.known).error_answer_lem is.not_request is.with_error
 
   rules : command_rules c ≡ of_error_answer
@@ -83,7 +82,7 @@ module _ (c : List ℕ) (is : IsErrorAnswer c) where
   -- 02 [1]: "Of the exchange rules only the window rule applies": the others pass, whatever its AVPs are.
   -- Carried by request_1_kinds and the definition of by_command.
   -- Ruled out: a reader that asks for 4202 beside a 4207; one that refuses 297 beside 268.
-  pub request_1_rules : (xs : List Avp) → exchange c xs ≡ Pass
+  pub request_1_rules : (xs : List Avp) → exchange c xs ≡ no_refusal
   request_1_rules xs = rw rules
 
   own_rows_lem : (xs : List Avp) → own_rows c xs ≡ list_outcome of_error_answer.rows 1 (length c) xs
@@ -126,7 +125,7 @@ module _ (c : List ℕ) (is : IsErrorAnswer c) where
   -- Carried by request_1_flags, request_1_rules and request_5_refused (Windows).
   -- Ruled out: a reader that judges only the windows of requests and of answers without E; one that judges those at
   -- depth 1 alone.
-  pub request_1_window : (xs : List Avp) → walk_of c ≡ whole xs → own_rows c xs ≡ Pass → group_rows c xs ≡ Pass
+  pub request_1_window : (xs : List Avp) → walk_of c ≡ whole xs → own_rows c xs ≡ no_refusal → group_rows c xs ≡ no_refusal
       → (k j : ℕ) → RightBefore c xs k → WrongWindow c xs k j
       → command_verdict c ≡ verdict 5004 (place_of (avp_in xs j)) vendor_3gpp 4205
   request_1_window xs walk own groups = request_5_refused c xs header_passes walk own groups (request_1_rules xs)

@@ -1,6 +1,7 @@
 -- What a search finds: request [9]'s AVP of an ordinal among those at depth 1 with a vendor and code, none exactly when
 -- the ordinal is not below their number, 01's first one, and the first member of a group.
 use mathlib.Core.Path.{◌≡◌, refl, sym, ap, ◌∙◌}
+use Rattle.std.specs.Prelude.{Option, Some, None}
 use mathlib.Core.Bool.{true, false}
 use mathlib.Core.Logic.{◌↔◌}
 use mathlib.Core.List.{List}
@@ -11,8 +12,6 @@ use lib.Dec.{eqb}
 use lib.ListN.{length, take, drop, length-drop}
 use lib.Seq.{take-length, get_or-drop}
 use Rattle.rules.specs.declared.Avp.{Avp}
-use Rattle.rules.specs.declared.Found.{Found}
-use Rattle.rules.specs.declared.Found.TheVariants.{At, Nothing}
 use Rattle.rules.specs.Search.{blank, avp_in, is_at, first_from, positions, search, first, member}
 use Rattle.rules.specs.Search.{how_many, Stands, NthAvp, FirstAvp, FirstMember, NoAvp}
 use Rattle.rules.specs.Avp.{named}
@@ -50,7 +49,7 @@ module _ (a : Avp) (depth vendor code : ℕ) where
 
 -- the first that is found from a position on has the name
 pub found_named : (floor depth vendor code : ℕ) (xs : List Avp) (i j : ℕ)
-    → first_from i floor depth (drop i xs) vendor code ≡ At j → named (avp_in xs j) vendor code ≡ true
+    → first_from i floor depth (drop i xs) vendor code ≡ Some j → named (avp_in xs j) vendor code ≡ true
 found_named floor depth vendor code xs i j e =
     let f = found_is_nth floor depth vendor code (drop i xs) i 0 j e in
     let here = rw (get_or-drop i xs f.k blank, f.place) at f.nth_one.here in
@@ -63,12 +62,12 @@ found_named floor depth vendor code xs i j e =
 -- Ruled out: a search that counts ordinals from 1; one that takes a member of a group for an AVP of the command's own
 -- list, or counts it.
 pub search_nth : (xs : List Avp) (vendor code ordinal i : ℕ)
-    → ((search xs vendor code ordinal).found ≡ At i) ↔ NthAvp xs vendor code ordinal i
+    → ((search xs vendor code ordinal).found ≡ Some i) ↔ NthAvp xs vendor code ordinal i
 search_nth xs vendor code ordinal i =
     let q : i ≡ 0 + i = omega arith in
     let l = nth_is 0 1 vendor code xs 0 ordinal i in (
       λ e.
-          let f = l.0 (e ∙ ap At q) in
+          let f = l.0 (e ∙ ap Some q) in
           record { within = f.within; here = stands (avp_in xs i) 1 vendor code f.here; before = f.before },
       λ f.
           l.1
@@ -78,14 +77,14 @@ search_nth xs vendor code ordinal i =
             before = f.before;
             inside = λ j h. omega arith;
           })
-          ∙ ap At (sym q),
+          ∙ ap Some (sym q),
     )
 
 -- 02 [9]: "'None' now means exactly that the ordinal is not below that number".
 -- Carried by nth_none (Searches).
 -- Ruled out: a search that ends one too early, or one too late.
 pub search_none : (xs : List Avp) (vendor code ordinal : ℕ)
-    → ((search xs vendor code ordinal).found ≡ Nothing) ↔ ((search xs vendor code ordinal).number ≤ ordinal)
+    → ((search xs vendor code ordinal).found ≡ None) ↔ ((search xs vendor code ordinal).number ≤ ordinal)
 search_none xs vendor code ordinal = nth_none (positions xs vendor code) ordinal
 
 -- 02 [9]: "tell how many there are of that vendor and code at depth 1", whatever the ordinal.
@@ -98,7 +97,7 @@ search_number xs vendor code ordinal = positions_number xs 0 1 vendor code
 -- 01: "A search gives the first AVP at depth 1 with a vendor and code, as its position"; the ordinal is 0.
 -- Carried by search_nth.
 -- Ruled out: a search that gives the last of several.
-pub search_first : (xs : List Avp) (vendor code i : ℕ) → (first xs vendor code ≡ At i) ↔ FirstAvp xs vendor code i
+pub search_first : (xs : List Avp) (vendor code i : ℕ) → (first xs vendor code ≡ Some i) ↔ FirstAvp xs vendor code i
 search_first xs vendor code i =
     let l = search_nth xs vendor code 0 i in (
       λ e.
@@ -123,7 +122,7 @@ search_first xs vendor code i =
 -- Carried by search_none and search_number.
 -- Ruled out: a search that misses the AVP at position 0, or the last one; one that gives the first place where there is
 -- none.
-pub search_absent : (xs : List Avp) (vendor code : ℕ) → (first xs vendor code ≡ Nothing) ↔ NoAvp xs vendor code
+pub search_absent : (xs : List Avp) (vendor code : ℕ) → (first xs vendor code ≡ None) ↔ NoAvp xs vendor code
 search_absent xs vendor code =
     let l = search_none xs vendor code 0 in
     let number = search_number xs vendor code 0 in
@@ -187,7 +186,7 @@ module _ (xs : List Avp) (k vendor code i : ℕ) where
   -- the search among the members of a group: the exchange rules go by it.
   -- Carried by found_is_nth and nth_is_found (Nth).
   -- Ruled out: one that takes a member of an inner group; one that goes on behind the group's end.
-  pub member_first : (member xs k inner vendor code ≡ At i) ↔ FirstMember xs k vendor code i
+  pub member_first : (member xs k inner vendor code ≡ Some i) ↔ FirstMember xs k vendor code i
   member_first =
       let among = drop (k + 1) xs in (
         λ e.
@@ -196,20 +195,20 @@ module _ (xs : List Avp) (k vendor code i : ℕ) where
             member_there (omega (arith, f.place)) (rw q at f.nth_one),
         λ f.
             let q : k + 1 + (i - (k + 1)) ≡ i = omega (arith, f.behind) in
-            nth_is_found inner inner vendor code among (k + 1) 0 (i - (k + 1)) (first_there f) ∙ ap At q,
+            nth_is_found inner inner vendor code among (k + 1) 0 (i - (k + 1)) (first_there f) ∙ ap Some q,
       )
 
 -- no member was found
 module _ (xs : List Avp) (k vendor code : ℕ) (none : (i : ℕ) → FirstMember xs k vendor code i → ⊥) where
-  not_found : (f : Found) → member xs k ((avp_in xs k).depth + 1) vendor code ≡ f → f ≡ Nothing
-  not_found (At i) e = absurd (none i ((member_first xs k vendor code i).0 e))
-  not_found Nothing e = refl
+  not_found : (f : Option ℕ) → member xs k ((avp_in xs k).depth + 1) vendor code ≡ f → f ≡ None
+  not_found (Some i) e = absurd (none i ((member_first xs k vendor code i).0 e))
+  not_found None e = refl
 
 -- the same search finds none exactly when there is no such member.
 -- Carried by member_first.
 -- Ruled out: a search that misses the last member.
 pub member_none : (xs : List Avp) (k vendor code : ℕ)
-    → (member xs k ((avp_in xs k).depth + 1) vendor code ≡ Nothing) ↔ ((i : ℕ) → FirstMember xs k vendor code i → ⊥)
+    → (member xs k ((avp_in xs k).depth + 1) vendor code ≡ None) ↔ ((i : ℕ) → FirstMember xs k vendor code i → ⊥)
 member_none xs k vendor code = (
   λ e i f. not_nothing (sym e ∙ (member_first xs k vendor code i).1 f),
   λ none. not_found xs k vendor code none (member xs k ((avp_in xs k).depth + 1) vendor code) refl,

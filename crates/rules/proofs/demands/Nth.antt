@@ -2,6 +2,7 @@
 -- position the search's list of positions has at an ordinal. One law serves the command's own list and the members of a
 -- group; Found says what it means for a search.
 use mathlib.Core.Path.{◌≡◌, refl, sym, ap, ◌∙◌}
+use Rattle.std.specs.Prelude.{Option, Some, None}
 use mathlib.Core.Bool.{true, false}
 use mathlib.Core.Logic.{◌↔◌}
 use mathlib.Core.List.{List, [], ◌∷◌}
@@ -12,8 +13,6 @@ use borrow.Author.Tests.{ltb-true, ltb-false}
 use lib.Dec.{ltb}
 use lib.ListN.{length, take}
 use Rattle.rules.specs.declared.Avp.{Avp}
-use Rattle.rules.specs.declared.Found.{Found}
-use Rattle.rules.specs.declared.Found.TheVariants.{At, Nothing}
 use Rattle.rules.specs.Search.{avp_in, is_at, positions_from, nth, position_of, how_many}
 use Rattle.rules.proofs.Walk.{by_cases}
 use Rattle.rules.proofs.Searches.{positions_above, positions_here, positions_later, positions_none}
@@ -72,18 +71,18 @@ module _ (depth vendor code : ℕ) where
 -- ---- one law over the positions
 
 -- a position is no `Nothing`
-pub not_nothing : {C : Type 0} {i : ℕ} → Nothing ≡ At i → C
+pub not_nothing : {C : Type 0} {i : ℕ} → None ≡ Some i → C
 not_nothing e = let z : ◌≡◌ {A = ℕ} 0 1 = cc in absurd (omega arith)
 
 -- two lists that are the same have the same at an ordinal
-as_in : (is js : List ℕ) (n j : ℕ) → is ≡ js → nth is n ≡ At j → nth js n ≡ At j
+as_in : (is js : List ℕ) (n j : ℕ) → is ≡ js → nth is n ≡ Some j → nth js n ≡ Some j
 as_in is js n j p e = rw p at e
 
 module _ (floor depth vendor code : ℕ) where
   abbrev Nth : List Avp → ℕ → ℕ → Type 0
   Nth xs n k = IsNth floor depth xs vendor code n k
 
-  abbrev at : ℕ → List Avp → ℕ → Found
+  abbrev at : ℕ → List Avp → ℕ → Option ℕ
   at i xs n = nth (positions_from i floor depth xs vendor code) n
 
   -- behind the first AVP, counted among the others
@@ -99,7 +98,7 @@ module _ (floor depth vendor code : ℕ) where
       }
 
   -- the AVP of an ordinal is found
-  pub nth_is_found : (xs : List Avp) (i n k : ℕ) → Nth xs n k → at i xs n ≡ At (i + k)
+  pub nth_is_found : (xs : List Avp) (i n k : ℕ) → Nth xs n k → at i xs n ≡ Some (i + k)
   nth_is_found [] i n k f = absurd (omega (arith, f.within))
   nth_is_found (a ∷ xs) i n zero f =
       let none : n ≡ 0 = sym f.before ∙ many_none depth vendor code in
@@ -124,9 +123,9 @@ module _ (floor depth vendor code : ℕ) where
 
   -- with an AVP of the list before those that are searched
   module _ (a : Avp) (xs : List Avp) (i j : ℕ) (in_list : floor ≤ a.depth)
-      (later : (m : ℕ) → at (i + 1) xs m ≡ At j → IsFound xs (i + 1) m j) where
+      (later : (m : ℕ) → at (i + 1) xs m ≡ Some j → IsFound xs (i + 1) m j) where
     on : (n m : ℕ) → ((k : ℕ) → how_many depth vendor code (take k xs) ≡ m
-        → how_many depth vendor code (take (suc k) (a ∷ xs)) ≡ n) → at (i + 1) xs m ≡ At j → IsFound (a ∷ xs) i n j
+        → how_many depth vendor code (take (suc k) (a ∷ xs)) ≡ n) → at (i + 1) xs m ≡ Some j → IsFound (a ∷ xs) i n j
     on n m more e =
         let f = later m e in
         let p = f.place in
@@ -147,7 +146,7 @@ module _ (floor depth vendor code : ℕ) where
         next_inside k f zero h = in_list
         next_inside k f (suc j) h = f j (omega arith)
 
-    own : (n : ℕ) → is_at a depth vendor code ≡ true → at i (a ∷ xs) n ≡ At j → IsFound (a ∷ xs) i n j
+    own : (n : ℕ) → is_at a depth vendor code ≡ true → at i (a ∷ xs) n ≡ Some j → IsFound (a ∷ xs) i n j
     own zero t e =
         let here = as_in _ _ 0 j (positions_here i floor depth a xs vendor code in_list t) e in
         let p : i ≡ j = ap position_of here in
@@ -164,15 +163,15 @@ module _ (floor depth vendor code : ℕ) where
         on (suc n) n (λ k m. many_here depth vendor code a (take k xs) t ∙ ap suc m)
         (as_in _ _ (suc n) j (positions_here i floor depth a xs vendor code in_list t) e)
 
-    other : (n : ℕ) → is_at a depth vendor code ≡ false → at i (a ∷ xs) n ≡ At j → IsFound (a ∷ xs) i n j
+    other : (n : ℕ) → is_at a depth vendor code ≡ false → at i (a ∷ xs) n ≡ Some j → IsFound (a ∷ xs) i n j
     other n t e =
         on n n (λ k m. many_other depth vendor code a (take k xs) t ∙ m)
         (as_in _ _ n j (positions_later i floor depth a xs vendor code in_list t) e)
 
-  pub found_is_nth : (xs : List Avp) (i n j : ℕ) → at i xs n ≡ At j → IsFound xs i n j
+  pub found_is_nth : (xs : List Avp) (i n j : ℕ) → at i xs n ≡ Some j → IsFound xs i n j
   found_is_nth [] i n j e = not_nothing (as_in _ _ n j (positions_none i floor depth vendor code) e)
   found_is_nth (a ∷ xs) i n j e =
-      let later : (m : ℕ) → at (i + 1) xs m ≡ At j → IsFound xs (i + 1) m j = λ m. found_is_nth xs (i + 1) m j in
+      let later : (m : ℕ) → at (i + 1) xs m ≡ Some j → IsFound xs (i + 1) m j = λ m. found_is_nth xs (i + 1) m j in
       by_cases (ltb a.depth floor)
       (λ h. not_nothing (as_in _ _ n j (positions_above i floor depth a xs vendor code (ltb-true _ _ h)) e))
       (λ h. by_cases (is_at a depth vendor code)
@@ -180,7 +179,7 @@ module _ (floor depth vendor code : ℕ) where
       (λ t. other a xs i j (ltb-false _ _ h) later n t e))
 
   -- counted from i, a position is given for an ordinal exactly when the AVP of that ordinal is there
-  pub nth_is : (xs : List Avp) (i n k : ℕ) → (at i xs n ≡ At (i + k)) ↔ Nth xs n k
+  pub nth_is : (xs : List Avp) (i n k : ℕ) → (at i xs n ≡ Some (i + k)) ↔ Nth xs n k
   nth_is xs i n k = (
     λ e.
         let f = found_is_nth xs i n (i + k) e in

@@ -2,6 +2,7 @@
 -- place, vendor and code. Above each: the words that it meets, what carries it, and two wrong systems that it rules
 -- out. The claims stand in rules/specs/Order.
 use mathlib.Core.Path.{◌≡◌, refl, ap, ◌∙◌}
+use Rattle.std.specs.Prelude.{Err}
 use mathlib.Core.Bool.{true, false}
 use mathlib.Core.List.{List}
 use Prim.Native.Nat.{ℕ, ◌≤◌}
@@ -10,8 +11,7 @@ use lib.Dec.{ltb}
 use lib.ListN.{length}
 use Rattle.rules.specs.declared.Avp.{Avp}
 use Rattle.rules.specs.declared.Verdict.{Verdict}
-use Rattle.rules.specs.declared.Outcome.TheVariants.{Pass, Refused}
-use Rattle.rules.specs.Verdict.{writer_only_numbers, is_among, refused, or_else, verdict, verdict_of}
+use Rattle.rules.specs.Verdict.{writer_only_numbers, is_among, refused, or_else, verdict, verdict_of, no_refusal}
 use Rattle.rules.specs.Header.{header_outcome, longest_command}
 use Rattle.rules.specs.Walk.{Walked, whole, stopped}
 use Rattle.rules.specs.RowChecks.{rows_outcome}
@@ -30,11 +30,11 @@ use Rattle.rules.proofs.demands.Demands.{demand_2_accepted}
 -- ---- a command
 
 module _ (c : List ℕ) where
-  by_header : (v : Verdict) → header_outcome c ≡ Refused v → command_verdict c ≡ v
+  by_header : (v : Verdict) → header_outcome c ≡ Err v → command_verdict c ≡ v
   unfolding command_verdict command_outcome
   by_header v h = rw h
 
-  module _ (headed : header_outcome c ≡ Pass) where
+  module _ (headed : header_outcome c ≡ no_refusal) where
     by_walk : (w : Walked) → walk_of c ≡ w → command_verdict c ≡ verdict_of (walked_outcome c w)
     unfolding command_verdict command_outcome
     by_walk w e = rw (headed, e)
@@ -90,7 +90,7 @@ module _ (d : Draft) (out : List ℕ) where
   unfolding writing draft_outcome octets_written
   own_refusal_lem number e = rw e
 
-  by_reader : own_outcome d (length out) ≡ Pass → (writing d out).verdict ≡ command_verdict (draft_octets d)
+  by_reader : own_outcome d (length out) ≡ no_refusal → (writing d out).verdict ≡ command_verdict (draft_octets d)
   unfolding writing draft_outcome command_verdict
   by_reader e = rw e
 

@@ -9,8 +9,7 @@ use borrow.Author.Tests.{le-leb, lt-leb, ltb-true, ltb-false}
 use lib.Dec.{ltb, leb}
 use lib.ListN.{length}
 use Rattle.rules.specs.declared.Avp.{Avp}
-use Rattle.rules.specs.declared.Outcome.TheVariants.{Pass}
-use Rattle.rules.specs.Verdict.{refused, verdict}
+use Rattle.rules.specs.Verdict.{refused, verdict, no_refusal}
 use Rattle.rules.specs.Search.{first, how_many}
 use Rattle.rules.specs.Exchange.{require, result_outcome, policy_number, policies_outcome, each_policy, answer_outcome}
 use Rattle.rules.specs.Command.{of_answer, command_rules, command_verdict}
@@ -74,13 +73,13 @@ module _ (c : List ℕ) (xs : List Avp) where
 
   -- what is there passes, whatever the number
   module _ (q : Equipped xs) (end : ℕ) where
-    has : {vendor code : ℕ} → Has xs vendor code → require (first xs) end vendor code ≡ Pass
+    has : {vendor code : ℕ} → Has xs vendor code → require (first xs) end vendor code ≡ no_refusal
     has h = rw ((search_first xs _ _ h.0).1 h.1)
 
     number : policy_number xs ≡ how_many 1 10415 4207 xs
     number = search_number xs 10415 4207 0
 
-    referenced : cond (leb 1 (policy_number xs)) (require (first xs) end 10415 4202) Pass ≡ Pass
+    referenced : cond (leb 1 (policy_number xs)) (require (first xs) end 10415 4202) no_refusal ≡ no_refusal
     referenced =
         by_cases (ltb (policy_number xs) 1)
         (λ h. rw (lt-leb 1 (policy_number xs) (ltb-true _ _ h)))
@@ -88,7 +87,7 @@ module _ (c : List ℕ) (xs : List Avp) where
         let some = ltb-false _ _ h in
         rw (le-leb 1 (policy_number xs) some) (has (q.reference (omega (arith, some, number)))))
 
-    addressed : cond (leb 2 (policy_number xs)) (require (first xs) end 10415 2207) Pass ≡ Pass
+    addressed : cond (leb 2 (policy_number xs)) (require (first xs) end 10415 2207) no_refusal ≡ no_refusal
     addressed =
         by_cases (ltb (policy_number xs) 2)
         (λ h. rw (lt-leb 2 (policy_number xs) (ltb-true _ _ h)))
@@ -99,7 +98,7 @@ module _ (c : List ℕ) (xs : List Avp) where
   -- 01: nothing else is asked for by the number of policies; what is left is what each of them holds.
   -- Carried by search_number and search_first (Found).
   -- Ruled out: a reader that asks for 2207 with one policy, or for 4202 with none.
-  pub request_9_asked : IsAnswer c → result_outcome (first xs) xs (length c) ≡ Pass
+  pub request_9_asked : IsAnswer c → result_outcome (first xs) xs (length c) ≡ no_refusal
       → Equipped xs → exchange c xs ≡ each_policy xs
   unfolding answer_outcome policies_outcome
   request_9_asked answer result q =

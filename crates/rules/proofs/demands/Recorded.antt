@@ -1,13 +1,13 @@
 -- Request [9] of a record: what the search finds among its used positions, and how many there are. It is the search
 -- over lists (Found) among the AVPs that are used.
 use mathlib.Core.Path.{◌≡◌, sym, ap, ◌∙◌}
+use Rattle.std.specs.Prelude.{Some, None}
 use mathlib.Core.Logic.{◌↔◌}
 use Prim.Native.Nat.{ℕ, ◌≤◌, ◌<◌}
 use native.Mathlib.Omega.{arith}
 use lib.ListN.{length, take}
 use lib.Seq.{length-take-le, get_or-take, take-take}
 use Rattle.rules.specs.declared.Record.{Record}
-use Rattle.rules.specs.declared.Found.TheVariants.{At, Nothing}
 use Rattle.rules.specs.Walk.{most_avps}
 use Rattle.rules.specs.Search.{blank, avp_in, how_many}
 use Rattle.rules.specs.Record.{recorded, search_record, used, NthRecorded}
@@ -28,7 +28,7 @@ module _ (r : Record) (full : length r.avps ≡ most_avps) (vendor code ordinal 
   -- 256 as 256".
   -- Carried by search_nth (Found).
   -- Ruled out: a search that passes over the ordinal; one that finds an AVP behind the count.
-  pub record_nth : (i : ℕ) → ((search_record r vendor code ordinal).found ≡ At i) ↔ NthRecorded r vendor code ordinal i
+  pub record_nth : (i : ℕ) → ((search_record r vendor code ordinal).found ≡ Some i) ↔ NthRecorded r vendor code ordinal i
   unfolding search_record
   record_nth i =
       let l = search_nth (recorded r) vendor code ordinal i in (
@@ -49,7 +49,7 @@ module _ (r : Record) (full : length r.avps ≡ most_avps) (vendor code ordinal 
 -- Carried by search_none (Found).
 -- Ruled out: a search that ends one too early, or one too late.
 pub record_none : (r : Record) (vendor code ordinal : ℕ)
-    → ((search_record r vendor code ordinal).found ≡ Nothing) ↔ ((search_record r vendor code ordinal).number ≤ ordinal)
+    → ((search_record r vendor code ordinal).found ≡ None) ↔ ((search_record r vendor code ordinal).number ≤ ordinal)
 unfolding search_record
 record_none r vendor code ordinal = search_none (recorded r) vendor code ordinal
 

@@ -1,15 +1,13 @@
 -- Request [2]: total volume beside a direction. Which commands are refused, with place, vendor and code, and that no
 -- other request is. The claims stand in rules/specs/Volumes.
 use mathlib.Core.Path.{◌≡◌, refl, ap, ◌∙◌}
+use Rattle.std.specs.Prelude.{Option, Some, None}
 use mathlib.Core.Logic.{◌⊎◌, inl, ⊎_elim}
 use mathlib.Core.List.{List}
 use Prim.Native.Nat.{ℕ}
 use lib.ListN.{length}
 use Rattle.rules.specs.declared.Avp.{Avp}
-use Rattle.rules.specs.declared.Found.{Found}
-use Rattle.rules.specs.declared.Found.TheVariants.{At, Nothing}
-use Rattle.rules.specs.declared.Outcome.TheVariants.{Pass}
-use Rattle.rules.specs.Verdict.{refused, verdict}
+use Rattle.rules.specs.Verdict.{refused, verdict, no_refusal}
 use Rattle.rules.specs.Header.{header_outcome}
 use Rattle.rules.specs.Avp.{place_of}
 use Rattle.rules.specs.Walk.{whole}
@@ -32,21 +30,21 @@ named_fault number a n =
 module _ (xs : List Avp) where
   -- ---- what is there is found
 
-  found : {vendor code : ℕ} (h : Has xs vendor code) → first xs vendor code ≡ At h.0
+  found : {vendor code : ℕ} (h : Has xs vendor code) → first xs vendor code ≡ Some h.0
   found h = (search_first xs _ _ h.0).1 h.1
 
-  required : {vendor code : ℕ} (end : ℕ) → Has xs vendor code → require (first xs) end vendor code ≡ Pass
+  required : {vendor code : ℕ} (end : ℕ) → Has xs vendor code → require (first xs) end vendor code ≡ no_refusal
   required end h = rw (found h)
 
-  either_found : (f : Found) (i : ℕ) → (j : ℕ) × (first_found f (At i) ≡ At j)
-  either_found (At j) i = (j, refl)
-  either_found Nothing i = (i, refl)
+  either_found : (f : Option ℕ) (i : ℕ) → (j : ℕ) × (first_found f (Some i) ≡ Some j)
+  either_found (Some j) i = (j, refl)
+  either_found None i = (i, refl)
 
-  directed : HasDirection xs → (j : ℕ) × (direction (first xs) ≡ At j)
+  directed : HasDirection xs → (j : ℕ) × (direction (first xs) ≡ Some j)
   unfolding direction
   directed = ⊎_elim (λ h. (h.0, rw (found h))) (λ h. rw (found h) (either_found (first xs 0 412) h.0))
 
-  volumed : (end : ℕ) → (Has xs 0 421) ⊎ (HasDirection xs) → volume (first xs) end ≡ Pass
+  volumed : (end : ℕ) → (Has xs 0 421) ⊎ (HasDirection xs) → volume (first xs) end ≡ no_refusal
   unfolding volume
   volumed end =
       ⊎_elim
@@ -62,11 +60,11 @@ module _ (xs : List Avp) where
   unfolding total_alone
   beside i t h = rw (found (i, t), (directed h).1)
 
-  none_beside : (f : Found) → not_beside xs f Nothing ≡ Pass
-  none_beside (At i) = refl
-  none_beside Nothing = refl
+  none_beside : (f : Option ℕ) → not_beside xs f None ≡ no_refusal
+  none_beside (Some i) = refl
+  none_beside None = refl
 
-  alone : StandsAlone xs → total_alone (first xs) xs ≡ Pass
+  alone : StandsAlone xs → total_alone (first xs) xs ≡ no_refusal
   unfolding total_alone direction
   alone =
       ⊎_elim
@@ -91,7 +89,7 @@ module _ (xs : List Avp) where
       -- after the check that a volume is present and before 4209". Whatever else it has or lacks, once its rows are
       -- met. Carried by demand_2_first_fault (Order) and search_first (Found).
       -- Ruled out: a reader that asks for 4209 first; one that refuses at the direction's place or by its name.
-      pub request_2_beside : header_outcome c ≡ Pass → walk_of c ≡ whole xs → own_rows c xs ≡ Pass → group_rows c xs ≡ Pass
+      pub request_2_beside : header_outcome c ≡ no_refusal → walk_of c ≡ whole xs → own_rows c xs ≡ no_refusal → group_rows c xs ≡ no_refusal
           → command_verdict c ≡ verdict 5008 (place_of (avp_in xs i)) 0 421
       request_2_beside h w own groups =
           ((demand_2_first_fault c).lists xs h w).rules _ own groups
@@ -101,7 +99,7 @@ module _ (xs : List Avp) where
     -- passes them, if its total stands alone.
     -- Carried by search_first and search_absent (Found).
     -- Ruled out: a rule that refuses 412 beside 414; one that counts a total or a direction inside a group.
-    pub request_2_first : CompleteFirst c xs → exchange c xs ≡ Pass
+    pub request_2_first : CompleteFirst c xs → exchange c xs ≡ no_refusal
     unfolding first_request
     request_2_first f =
         let end = length c in
@@ -112,7 +110,7 @@ module _ (xs : List Avp) where
     -- 02 [2]: the rule is for 4203 = 0 alone. With 4203 = 1 what has 4202, 4208 and 293 passes, whatever its volumes.
     -- Carried by search_first (Found).
     -- Ruled out: the rule for every request; a volume asked for with 4203 = 1.
-    pub request_2_later : CompleteLater c xs → exchange c xs ≡ Pass
+    pub request_2_later : CompleteLater c xs → exchange c xs ≡ no_refusal
     unfolding later_request
     request_2_later l =
         let end = length c in

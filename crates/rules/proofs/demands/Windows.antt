@@ -1,6 +1,7 @@
 -- Request [5]: the windows of a command. Which are right, and which one's fault comes back, with place, vendor and
 -- code. The claims stand in rules/specs/Windows.
 use mathlib.Core.Path.{◌≡◌, refl, sym, ◌∙◌}
+use Rattle.std.specs.Prelude.{Option, Some, None}
 use mathlib.Core.Bool.{true, false}
 use mathlib.Core.List.{List}
 use Prim.Native.Nat.{ℕ, zero, suc, ◌+◌, ◌≤◌, ◌<◌}
@@ -12,12 +13,8 @@ use lib.ListN.{length, drop, drop_of_length-le}
 use lib.Seq.{drop-cons}
 use lib.Signed.{lt_z, ◌≤ℤ◌, ◌<ℤ◌, clash_ℤ}
 use Rattle.rules.specs.declared.Avp.{Avp}
-use Rattle.rules.specs.declared.Found.{Found}
-use Rattle.rules.specs.declared.Found.TheVariants.{At, Nothing}
-use Rattle.rules.specs.declared.Outcome.{Outcome}
-use Rattle.rules.specs.declared.Outcome.TheVariants.{Pass}
 use Rattle.rules.specs.Octets.{number_at}
-use Rattle.rules.specs.Verdict.{refused, or_else, verdict}
+use Rattle.rules.specs.Verdict.{refused, or_else, verdict, Outcome, no_refusal}
 use Rattle.rules.specs.Header.{vendor_3gpp, header_outcome}
 use Rattle.rules.specs.Avp.{named, place_of, end_of}
 use Rattle.rules.specs.Dictionary.{dictionary}
@@ -75,7 +72,7 @@ module _ (c : List ℕ) (xs : List Avp) (k : ℕ) where
             (member_first xs k vendor_3gpp 4205 j).1 w.end,
           )
 
-      above_passes : pos 0 <ℤ seconds_of c xs i j → window_at xs c k (avp_in xs k) ≡ Pass
+      above_passes : pos 0 <ℤ seconds_of c xs i j → window_at xs c k (avp_in xs k) ≡ no_refusal
       above_passes h = by_times ∙ rw (order_is ∙ above_test _ h)
 
       wrong_refused : seconds_of c xs i j ≤ℤ pos 0
@@ -84,9 +81,9 @@ module _ (c : List ℕ) (xs : List Avp) (k : ℕ) where
 
   -- a window that passes has both times, and is right
   module _ (w : IsWindow xs k) where
-    found_right : (f g : Found) → member xs k inner vendor_3gpp 4206 ≡ f → member xs k inner vendor_3gpp 4205 ≡ g
-        → window_by xs c (end_of (avp_in xs k)) f g ≡ Pass → RightWindow c xs k
-    found_right (At i) (At j) e f p =
+    found_right : (f g : Option ℕ) → member xs k inner vendor_3gpp 4206 ≡ f → member xs k inner vendor_3gpp 4205 ≡ g
+        → window_by xs c (end_of (avp_in xs k)) f g ≡ no_refusal → RightWindow c xs k
+    found_right (Some i) (Some j) e f p =
         by_cases (is_before (number_at 4 c (avp_in xs i).start) (number_at 4 c (avp_in xs j).start))
         (λ h.
         record {
@@ -101,16 +98,16 @@ module _ (c : List ℕ) (xs : List Avp) (k : ℕ) where
           above = record { lt = rw (sym (order_is i j) ∙ h) tt };
         })
         (λ h. never (rw h at p))
-    found_right (At i) Nothing e f p = never p
-    found_right Nothing (At j) e f p = never p
-    found_right Nothing Nothing e f p = never p
+    found_right (Some i) None e f p = never p
+    found_right None (Some j) e f p = never p
+    found_right None None e f p = never p
 
-    passed_right : window_at xs c k (avp_in xs k) ≡ Pass → RightWindow c xs k
+    passed_right : window_at xs c k (avp_in xs k) ≡ no_refusal → RightWindow c xs k
     unfolding window_in
     passed_right p = found_right _ _ refl refl (rw (window_named w) at p)
 
   -- of an AVP that is no window nothing is said
-  right_passes : (IsWindow xs k → RightWindow c xs k) → window_at xs c k (avp_in xs k) ≡ Pass
+  right_passes : (IsWindow xs k → RightWindow c xs k) → window_at xs c k (avp_in xs k) ≡ no_refusal
   right_passes right =
       by_cases (named (avp_in xs k) vendor_3gpp 4204)
       (λ h. let w = right (named_window h) in above_passes w.i w.j w.window w.above)
@@ -129,8 +126,8 @@ module _ (c : List ℕ) (xs : List Avp) where
       let q : k + 1 ≡ suc k = omega arith in
       rw (drop-cons xs k blank h, q)
 
-  passed_both : (k : ℕ) → k < length xs → windows_from k ≡ Pass
-      → (window_at xs c k (avp_in xs k) ≡ Pass) × (windows_from (suc k) ≡ Pass)
+  passed_both : (k : ℕ) → k < length xs → windows_from k ≡ no_refusal
+      → (window_at xs c k (avp_in xs k) ≡ no_refusal) × (windows_from (suc k) ≡ no_refusal)
   passed_both k h e = both_pass (window_at xs c k (avp_in xs k)) (windows_from (suc k)) (sym (next_window k h) ∙ e)
 
   -- where those before a position are right, what the others say
@@ -142,7 +139,7 @@ module _ (c : List ℕ) (xs : List Avp) where
       ∙ next_window k h
       ∙ rw (right_passes c xs k (right k (omega arith)))
 
-  all_pass : AllRight c xs → windows c xs ≡ Pass
+  all_pass : AllRight c xs → windows c xs ≡ no_refusal
   unfolding windows_from each_window
   all_pass right =
       right_before (length xs) (omega arith) right ∙ rw (drop_of_length-le xs {i = length xs} (omega arith))
@@ -156,8 +153,8 @@ module _ (c : List ℕ) (xs : List Avp) where
       ∙ next_window k (omega arith)
       ∙ rw (wrong_refused c xs k w.i j w.window w.not_above)
 
-  module _ (p : windows c xs ≡ Pass) where
-    passed_from : (k : ℕ) → k ≤ length xs → windows_from k ≡ Pass
+  module _ (p : windows c xs ≡ no_refusal) where
+    passed_from : (k : ℕ) → k ≤ length xs → windows_from k ≡ no_refusal
     unfolding windows_from
     passed_from zero h = p
     passed_from (suc k) h = (passed_both k h (passed_from k (omega arith))).1
@@ -168,8 +165,8 @@ module _ (c : List ℕ) (xs : List Avp) where
 -- ---- in their place
 
 -- the rows are met, and the exchange rules of the request or the answer hold
-module _ (c : List ℕ) (xs : List Avp) (h : header_outcome c ≡ Pass) (w : walk_of c ≡ whole xs) (own : own_rows c xs ≡ Pass)
-    (groups : group_rows c xs ≡ Pass) (rules : exchange c xs ≡ Pass) where
+module _ (c : List ℕ) (xs : List Avp) (h : header_outcome c ≡ no_refusal) (w : walk_of c ≡ whole xs) (own : own_rows c xs ≡ no_refusal)
+    (groups : group_rows c xs ≡ no_refusal) (rules : exchange c xs ≡ no_refusal) where
   -- 02 [5]: "A window is right exactly when this number is above 0. Refusals: 5004 keeps its place": the first window
   -- in walk order, at any depth, whose number is not above 0 is refused at its 4205.
   -- Carried by request_5_right (Times), member_first (Found) and demand_2_first_fault (Order).

@@ -1,16 +1,17 @@
 -- The octets that the writer gives to the meaning of an accepted command: as long as the command, and accepted again
 -- with the same meaning.
 use mathlib.Core.Path.{◌≡◌, refl, sym, ap, ◌∙◌}
+use Rattle.rules.specs.Verdict.{no_refusal}
 use mathlib.Core.List.{List, [], ◌∷◌, map}
 use Prim.Native.Nat.{ℕ, ◌%◌}
 use native.Mathlib.Omega.{arith}
 use lib.ListN.{length, drop, length-map, length-replicate}
 use Rattle.rules.specs.declared.Avp.{Avp}
-use Rattle.rules.specs.declared.Outcome.TheVariants.{Pass}
 use Rattle.rules.specs.declared.ExchangeRules.{ExchangeRules}
 use Rattle.rules.specs.Octets.{AreOctets}
 use Rattle.rules.specs.Header.{length_field, command_flags, is_request, is_proxiable, is_error, flags_outcome, header_outcome}
-use Rattle.rules.specs.Dictionary.{Entry, dictionary}
+use Rattle.rules.specs.declared.Entry.{Entry}
+use Rattle.rules.specs.Dictionary.{dictionary}
 use Rattle.rules.specs.Walk.{whole, avps_of}
 use Rattle.rules.specs.Exchange.{exchange_outcome}
 use Rattle.rules.specs.Command.{rules_by, command_rules, walk_of, lists_outcome, command_outcome}
@@ -125,7 +126,7 @@ module _ (c : List ℕ) (oct : AreOctets c) (k : AcceptedItems c) where
       (passes_again c again k.items zeros 20 f g e k.tail again_tail passes)
       ∙ ap whole (sym (avps_same dictionary k.items zeros 20 f g e))
 
-  again_header : header_outcome again ≡ Pass
+  again_header : header_outcome again ≡ no_refusal
   unfolding header_outcome
   again_header =
       let h = head_written (meaning_of c) again_writable in
@@ -136,7 +137,7 @@ module _ (c : List ℕ) (oct : AreOctets c) (k : AcceptedItems c) where
       let field = own.field_is in
       let field' = h.length-is in
       let q : length_field again ≡ length_field c = omega arith in
-      let f : flags_outcome (command_flags again) ≡ Pass =
+      let f : flags_outcome (command_flags again) ≡ no_refusal =
       flags_same (command_flags again) (command_flags c) h.flags_are.first h.flags_are.second
       h.flags_are.third ∙ own.flags_pass in
       rw (
@@ -146,7 +147,7 @@ module _ (c : List ℕ) (oct : AreOctets c) (k : AcceptedItems c) where
         f,
       )
 
-  again_lists : lists_outcome again (avps_at 20 k.items) ≡ Pass
+  again_lists : lists_outcome again (avps_at 20 k.items) ≡ no_refusal
   again_lists =
       let xs = avps_at 20 k.items in
       let f = k.listed.fit in
@@ -161,7 +162,7 @@ module _ (c : List ℕ) (oct : AreOctets c) (k : AcceptedItems c) where
       (numbers_again c again 10415 4206 four_4206 refl k.items zeros 20 f g e k.tail again_tail passes)))
       ∙ k.lists
 
-  pub again_accepted : command_outcome again ≡ Pass
+  pub again_accepted : command_outcome again ≡ no_refusal
   unfolding command_outcome
   again_accepted = rw (again_header, again_walk, again_lists)
 

@@ -1,6 +1,7 @@
 -- Checks 3 to 7 over other octets: items of the same cells at the same places pass together. Only check 6 reads data,
 -- of AVPs that are four octets wide in the dictionary, and these are the same.
 use mathlib.Core.Path.{◌≡◌, refl, sym, ap, ◌∙◌}
+use Rattle.rules.specs.Verdict.{no_refusal}
 use mathlib.Core.Bool.{Bool, true, false}
 use mathlib.Core.List.{List, [], ◌++◌}
 use Prim.Native.Nat.{ℕ, ◌+◌, ◌-◌, ◌≤◌, ◌<◌}
@@ -9,12 +10,10 @@ use borrow.Author.Tests.{eqb-true, not-false}
 use lib.Dec.{eqb}
 use lib.ListN.{length, get_or, drop}
 use Rattle.rules.specs.declared.Avp.{Avp}
-use Rattle.rules.specs.declared.Form.TheVariants.{Fixed}
-use Rattle.rules.specs.declared.Definition.TheVariants.{Known}
-use Rattle.rules.specs.declared.Outcome.TheVariants.{Pass}
 use Rattle.rules.specs.Octets.{number_at}
 use Rattle.rules.specs.Avp.{flags_at, named}
-use Rattle.rules.specs.Dictionary.{dictionary, find, is_group}
+use Rattle.rules.specs.declared.Form.TheVariants.{Fixed}
+use Rattle.rules.specs.Dictionary.{dictionary, find, is_group, Known}
 use Rattle.rules.specs.Walk.{contents, wrong_width, wrong_value}
 use Rattle.rules.specs.Meaning.{Cell}
 use Rattle.rules.specs.Wire.{has_vendor, avp_header}
@@ -73,7 +72,7 @@ value_same a n n' f g =
 module _ (s t : List ℕ) (at : ℕ) (x y : Item) (fit : Fit dictionary x) (same : x.cell ≡ y.cell) (rs rt : List ℕ)
     (es : drop at s ≡ avp_header x.cell ++ (x.cell.octets ++ rs))
     (et : drop at t ≡ avp_header y.cell ++ (y.cell.octets ++ rt))
-    (pass : contents_of dictionary s at x ≡ Pass)
+    (pass : contents_of dictionary s at x ≡ no_refusal)
   where
     own_same : (i : ℕ) → at ≤ i → i < at + front x → get_or s i 0 ≡ get_or t i 0
     own_same i h k =
@@ -97,7 +96,7 @@ module _ (s t : List ℕ) (at : ℕ) (x y : Item) (fit : Fit dictionary x) (same
         number_same s t 4 (avp_of at x).start (omega arith) (omega arith)
         (λ i h k. own_same i (omega arith) (omega arith))
 
-    pub contents_again : contents_of dictionary t at y ≡ Pass
+    pub contents_again : contents_of dictionary t at y ≡ no_refusal
     contents_again =
         let a = avp_of at x in
         let d = find dictionary x.cell.vendor x.cell.code in
@@ -105,7 +104,7 @@ module _ (s t : List ℕ) (at : ℕ) (x y : Item) (fit : Fit dictionary x) (same
         let f : flags_at s at ≡ flags_at t at = own_same (at + 4) (omega arith) (omega arith) in
         let v = value_same a (number_at 4 s a.start) (number_at 4 t a.start) (four_same 0 277 four_277)
         (four_same 10415 4203 four_4203) in
-        let c : contents t at a d ≡ Pass =
+        let c : contents t at a d ≡ no_refusal =
         contents_pass t at a d (rw f at clear.flags) clear.known clear.width (sym v ∙ clear.value)
         clear.level in
         ap (λ (q : Cell). contents_of dictionary t at (record { cell = q; padding = [] })) (sym same) ∙ c

@@ -1,6 +1,7 @@
 -- A command in its canonical form: what the answer of a call tells, the form of an accepted command, and that a call
 -- for it answers and leaves what the writer does for the command's own record over its octets.
 use mathlib.Core.Path.{◌≡◌, refl, sym, ap, ◌∙◌}
+use Rattle.std.specs.Prelude.{Err}
 use mathlib.Core.Bool.{Bool, true, false, ◌||◌}
 use mathlib.Core.List.{List, [], ◌∷◌, ◌++◌}
 use Prim.Native.Nat.{ℕ, ◌≤◌}
@@ -11,9 +12,7 @@ use lib.ListN.{length, drop}
 use lib.Seq.{take-append_seam}
 use Rattle.rules.specs.declared.Verdict.{Verdict}
 use Rattle.rules.specs.declared.Written.{Written}
-use Rattle.rules.specs.declared.Outcome.{Outcome}
-use Rattle.rules.specs.declared.Outcome.TheVariants.{Pass, Refused}
-use Rattle.rules.specs.Verdict.{reader_numbers, writer_only_numbers, writer_numbers, is_among, verdict, refused, refuse_if, or_else, verdict_of}
+use Rattle.rules.specs.Verdict.{reader_numbers, writer_only_numbers, writer_numbers, is_among, verdict, refused, refuse_if, or_else, verdict_of, Outcome, no_refusal}
 use Rattle.rules.specs.Command.{command_outcome, command_verdict}
 use Rattle.rules.specs.Meaning.{meaning_of}
 use Rattle.rules.specs.Draft.{own_draft}
@@ -29,13 +28,13 @@ use Rattle.rules.proofs.demands.again.RoundTrip.{draft_octets_lem, draft_outcome
 -- ---- what an answer tells
 
 -- no refusal of a call has the number 0
-room_told : (short : Bool) → (verdict_of (refuse_if short (refused 7004 0 0 0) Pass)).number ≡ 0 → short ≡ false
+room_told : (short : Bool) → (verdict_of (refuse_if short (refused 7004 0 0 0) no_refusal)).number ≡ 0 → short ≡ false
 room_told true z = absurd (omega arith)
 room_told false z = refl
 
 module _ (c out : List ℕ) where
   -- a refused call writes nothing
-  module _ (v : Verdict) (no : canonical_outcome c (length out) ≡ Refused v) where
+  module _ (v : Verdict) (no : canonical_outcome c (length out) ≡ Err v) where
     none_written : canonical_written c (length out) ≡ []
     unfolding canonical_written
     none_written = ap (λ (o : Outcome). octets_by o (canonical_octets c)) no
@@ -49,12 +48,12 @@ module _ (c out : List ℕ) where
     output_of = ap (λ (l : List ℕ). l ++ drop (length l) out) none_written
 
   -- a call for a refused command has the reader's refusal
-  module _ (v : Verdict) (no : command_outcome c ≡ Refused v) where
-    read_refused : canonical_outcome c (length out) ≡ Refused v
+  module _ (v : Verdict) (no : command_outcome c ≡ Err v) where
+    read_refused : canonical_outcome c (length out) ≡ Err v
     unfolding canonical_outcome
     read_refused =
         ap
-        (λ (o : Outcome). or_else o (refuse_if (ltb (length out) (length (canonical_octets c))) (refused 7004 0 0 0) Pass))
+        (λ (o : Outcome). or_else o (refuse_if (ltb (length out) (length (canonical_octets c))) (refused 7004 0 0 0) no_refusal))
         no
 
     number_of : (canonical c out).verdict.number ≡ v.number
@@ -74,7 +73,7 @@ module _ (c out : List ℕ) where
 
   -- whatever the refusal is, the output is as it was, and the answer says so
   module _ (n : (canonical c out).verdict.number ≡ 0 → ⊥) where
-    number_zero : canonical_outcome c (length out) ≡ Pass → (canonical c out).verdict.number ≡ 0
+    number_zero : canonical_outcome c (length out) ≡ no_refusal → (canonical c out).verdict.number ≡ 0
     unfolding canonical
     number_zero e = ap (λ (o : Outcome). (verdict_of o).number) e
 
@@ -87,7 +86,7 @@ module _ (c out : List ℕ) where
         (λ v no. ap (λ (w : Written). w.length) (answer_of_lem v no))
 
     -- a refused call for an accepted command: the output is too short
-    pub short_answer : command_outcome c ≡ Pass → canonical c out ≡ record { verdict = verdict 7004 0 0 0; length = 0 }
+    pub short_answer : command_outcome c ≡ no_refusal → canonical c out ≡ record { verdict = verdict 7004 0 0 0; length = 0 }
     unfolding canonical_outcome
     short_answer pass =
         by_cases (ltb (length out) (length (canonical_octets c)))
@@ -96,7 +95,7 @@ module _ (c out : List ℕ) where
 
   module _ (z : (canonical c out).verdict.number ≡ 0) where
     -- a call that is accepted is one for an accepted command
-    pub accepted_command : command_outcome c ≡ Pass
+    pub accepted_command : command_outcome c ≡ no_refusal
     accepted_command =
         by_outcome (command_outcome c) (λ e. e) (λ v no. absurd (command_refusal c v no (sym (number_of v no) ∙ z)))
 
@@ -129,7 +128,7 @@ reader_in_table c =
     put_between (eqb n 0) (eqb n 7004) (eqb n 7006) (is_among reader_numbers n) (command_table c)
 
 room_in_table : (short : Bool)
-    → is_among (0 ∷ writer_numbers) (verdict_of (refuse_if short (refused 7004 0 0 0) Pass)).number ≡ true
+    → is_among (0 ∷ writer_numbers) (verdict_of (refuse_if short (refused 7004 0 0 0) no_refusal)).number ≡ true
 unfolding writer_only_numbers reader_numbers
 room_in_table true = refl
 room_in_table false = refl
@@ -143,12 +142,12 @@ call_table c out =
 
 -- ---- the form itself
 
-module _ (c : List ℕ) (oct : AreOctets c) (pass : command_outcome c ≡ Pass) where
+module _ (c : List ℕ) (oct : AreOctets c) (pass : command_outcome c ≡ no_refusal) where
   form_is : draft_octets (own_draft c) ≡ canonical_octets c
   unfolding canonical_octets
   form_is = draft_octets_lem c oct pass
 
-  pub form_accepted : command_outcome (canonical_octets c) ≡ Pass
+  pub form_accepted : command_outcome (canonical_octets c) ≡ no_refusal
   form_accepted = ap command_outcome (sym form_is) ∙ written_accepted c oct pass
 
   pub form_means : meaning_of (canonical_octets c) ≡ meaning_of c

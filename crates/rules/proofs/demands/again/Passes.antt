@@ -1,6 +1,7 @@
 -- Items in walk order that pass checks 3 to 7 over some octets: they do so over others where items of the same cells
 -- stand, and the numbers that the exchange rules read are the same.
 use mathlib.Core.Path.{◌≡◌, refl, sym, ap, ◌∙◌}
+use Rattle.rules.specs.Verdict.{no_refusal}
 use mathlib.Core.Bool.{true, false}
 use mathlib.Core.List.{List, [], ◌∷◌, map}
 use Prim.Native.Nat.{ℕ, zero, suc, ◌+◌, ◌≤◌}
@@ -8,10 +9,10 @@ use native.Mathlib.Omega.{arith}
 use borrow.Author.Tests.{lt-leb}
 use lib.ListN.{length, drop}
 use Rattle.rules.specs.declared.Avp.{Avp}
-use Rattle.rules.specs.declared.Outcome.TheVariants.{Pass}
 use Rattle.rules.specs.Octets.{number_at}
 use Rattle.rules.specs.Avp.{named}
-use Rattle.rules.specs.Dictionary.{Entry, dictionary}
+use Rattle.rules.specs.declared.Entry.{Entry}
+use Rattle.rules.specs.Dictionary.{dictionary}
 use Rattle.rules.specs.Walk.{whole, after}
 use Rattle.rules.specs.Search.{blank, avp_in}
 use Rattle.rules.specs.Meaning.{Cell}
@@ -28,7 +29,7 @@ use Rattle.rules.proofs.demands.again.Contents.{Four, four_same, contents_again}
 
 abbrev pub Passes : List Entry → List ℕ → ℕ → List Item → Type 0
 Passes dict s at [] = Unit {0}
-Passes dict s at (x ∷ xs) = (contents_of dict s at x ≡ Pass) × Passes dict s (at + step x) xs
+Passes dict s at (x ∷ xs) = (contents_of dict s at x ≡ no_refusal) × Passes dict s (at + step x) xs
 
 module _ (dict : List Entry) (s : List ℕ) where
   pub passes_of : (xs : List Item) (count at : ℕ) (avps : List Avp) → judged dict s count at xs ≡ whole avps

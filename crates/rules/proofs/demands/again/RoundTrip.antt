@@ -11,12 +11,12 @@ use lib.Dec.{ltb}
 use lib.Seq.{take_at, drop_at}
 use Rattle.rules.specs.declared.Avp.{Avp}
 use Rattle.rules.specs.declared.Record.{Record}
-use Rattle.rules.specs.declared.Outcome.TheVariants.{Pass}
 use Rattle.rules.specs.Octets.{AreOctets}
-use Rattle.rules.specs.Verdict.{refused, refuse_if}
+use Rattle.rules.specs.Verdict.{refused, refuse_if, no_refusal}
 use Rattle.rules.specs.Header.{longest_command}
 use Rattle.rules.specs.Avp.{end_of}
-use Rattle.rules.specs.Dictionary.{Entry, dictionary}
+use Rattle.rules.specs.declared.Entry.{Entry}
+use Rattle.rules.specs.Dictionary.{dictionary}
 use Rattle.rules.specs.Walk.{most_avps}
 use Rattle.rules.specs.Search.{blank}
 use Rattle.rules.specs.Command.{command_outcome}
@@ -90,7 +90,7 @@ names_all dict (x ∷ xs) at f =
 
 -- ---- a command's own record, over its octets
 
-module _ (c : List ℕ) (oct : AreOctets c) (pass : command_outcome c ≡ Pass) where
+module _ (c : List ℕ) (oct : AreOctets c) (pass : command_outcome c ≡ no_refusal) where
   read : AcceptedItems c
   read = accepted_items c oct pass
 
@@ -145,7 +145,7 @@ module _ (c : List ℕ) (oct : AreOctets c) (pass : command_outcome c ≡ Pass) 
   draft_octets_lem = ap command_octets record_means
 
   -- written anew, the command is accepted, and means the same
-  pub written_accepted : command_outcome (draft_octets (own_draft c)) ≡ Pass
+  pub written_accepted : command_outcome (draft_octets (own_draft c)) ≡ no_refusal
   written_accepted = ap command_outcome draft_octets_lem ∙ again_accepted c oct read
 
   pub written_means : meaning_of (draft_octets (own_draft c)) ≡ meaning_of c
@@ -157,7 +157,7 @@ module _ (c : List ℕ) (oct : AreOctets c) (pass : command_outcome c ≡ Pass) 
   -- the writer's own tests pass, and the reader accepts the octets: what is left is the room
   pub draft_outcome_lem : (room : ℕ)
       → draft_outcome (own_draft c) room
-      ≡ refuse_if (ltb room (length (draft_octets (own_draft c)))) (refused 7004 0 0 0) Pass
+      ≡ refuse_if (ltb room (length (draft_octets (own_draft c)))) (refused 7004 0 0 0) no_refusal
   unfolding draft_outcome own_outcome
   draft_outcome_lem room =
       let l = written_long in
@@ -167,10 +167,10 @@ module _ (c : List ℕ) (oct : AreOctets c) (pass : command_outcome c ≡ Pass) 
         le-ltb longest_command (length (draft_octets (own_draft c))) (omega arith),
         written_accepted,
       )
-      (or_pass (refuse_if (ltb room (length (draft_octets (own_draft c)))) (refused 7004 0 0 0) Pass))
+      (or_pass (refuse_if (ltb room (length (draft_octets (own_draft c)))) (refused 7004 0 0 0) no_refusal))
 
   module _ (out : List ℕ) (room : length c ≤ length out) where
-    pub draft_accepted : draft_outcome (own_draft c) (length out) ≡ Pass
+    pub draft_accepted : draft_outcome (own_draft c) (length out) ≡ no_refusal
     draft_accepted =
         let l = written_long in
         draft_outcome_lem (length out)

@@ -1,5 +1,6 @@
 -- Demand 3, its first half: two accepted commands mean the same if and only if they agree.
 use mathlib.Core.Path.{◌≡◌, sym, ap, ◌∙◌}
+use Rattle.rules.specs.Verdict.{no_refusal}
 use mathlib.Core.Bool.{Bool, cond}
 use mathlib.Core.List.{List, map}
 use mathlib.Core.Logic.{◌↔◌}
@@ -9,7 +10,6 @@ use native.Mathlib.Omega.{arith}
 use borrow.Author.Tests.{ltb-true, ltb-false, eqb-true, eqb-false, ne_eqb}
 use lib.Dec.{ltb, eqb}
 use lib.ListN.{length, get_or, length-map}
-use Rattle.rules.specs.declared.Outcome.TheVariants.{Pass}
 use Rattle.rules.specs.Octets.{AreOctets, flag}
 use Rattle.rules.specs.Header.{command_flags, hop_by_hop, end_to_end}
 use Rattle.rules.specs.Dictionary.{dictionary}
@@ -153,7 +153,7 @@ module _ (a b : List ℕ) (oa : AreOctets a) (ob : AreOctets b) (ka : AcceptedIt
       same_fields (meaning_of a) (meaning_of b) (u 8) (u 4) (u 2) (u 1) hop end count (cells_are a ka ∙ c ∙ sym (cells_are b kb))
 
 -- demand 3, first half
-pub same_meaning : (a b : List ℕ) → AreOctets a → AreOctets b → command_outcome a ≡ Pass → command_outcome b ≡ Pass
+pub same_meaning : (a b : List ℕ) → AreOctets a → AreOctets b → command_outcome a ≡ no_refusal → command_outcome b ≡ no_refusal
     → (meaning_of a ≡ meaning_of b) ↔ Agree a b
 same_meaning a b oa ob pa pb =
     let ka = accepted_items a oa pa in

@@ -11,7 +11,7 @@ use lib.ListN.{length, get_or, take, drop, length-append, length-drop}
 use lib.Seq.{take_at}
 use Rattle.rules.specs.Octets.{padded}
 use Rattle.rules.specs.Avp.{flags_at, flag_v, flag_m, flag_p, header_of}
-use Rattle.rules.specs.Dictionary.{Entry}
+use Rattle.rules.specs.declared.Entry.{Entry}
 use Rattle.rules.specs.Meaning.{Cell}
 use Rattle.rules.specs.Agreement.{fills_one}
 use Rattle.rules.specs.Wire.{has_vendor, avp_header}

@@ -9,7 +9,7 @@ use lib.Dec.{leb, ltb, eqb}
 use lib.ListN.{length}
 use Rattle.rules.specs.Octets.{padded}
 use Rattle.rules.specs.Avp.{header_of, place_of, end_of}
-use Rattle.rules.specs.Dictionary.{Entry}
+use Rattle.rules.specs.declared.Entry.{Entry}
 use Rattle.rules.specs.Agreement.{avp_length, filled_end, fills_one}
 use Rattle.rules.specs.Wire.{has_vendor}
 use Rattle.rules.proofs.Octets.{padded_least}

@@ -1,11 +1,11 @@
 -- What the answers of calls tell: after a refusal the record is empty, or the output as it was; after an acceptance the
 -- draft's meaning is written, as many octets as the answer says.
 use mathlib.Core.Path.{◌≡◌, refl, sym, ap, ◌∙◌}
+use Rattle.std.specs.Prelude.{Err, Ok}
+use Rattle.rules.specs.Verdict.{Outcome, no_refusal}
 use mathlib.Core.List.{List, [], ◌∷◌}
 use Prim.Native.Nat.{ℕ, ◌+◌}
 use lib.ListN.{length, length-append}
-use Rattle.rules.specs.declared.Outcome.{Outcome}
-use Rattle.rules.specs.declared.Outcome.TheVariants.{Pass, Refused}
 use Rattle.rules.specs.Command.{command_outcome, command_verdict}
 use Rattle.rules.specs.Record.{empty_record, record_by, reading}
 use Rattle.rules.specs.Meaning.{meaning_of}
@@ -18,18 +18,18 @@ use Rattle.rules.proofs.demands.numbering.Numbering.{command_number, draft_numbe
 
 -- ---- refusals
 
-record_refused : (s : List ℕ) (o : Outcome) → (o ≡ Pass → ⊥) → record_by s o ≡ empty_record
-record_refused s Pass n = absurd (n refl)
-record_refused s (Refused v) n = refl
+record_refused : (s : List ℕ) (o : Outcome) → (o ≡ no_refusal → ⊥) → record_by s o ≡ empty_record
+record_refused s (Ok u) n = absurd (n refl)
+record_refused s (Err v) n = refl
 
 -- a refused command's record
 pub empty_read : (s : List ℕ) → ((command_verdict s).number ≡ 0 → ⊥) → (reading s).«record» ≡ empty_record
 unfolding reading
 empty_read s n = record_refused s (command_outcome s) (λ e. n ((command_number s).1 e))
 
-none_by : (o : Outcome) (s : List ℕ) → (o ≡ Pass → ⊥) → octets_by o s ≡ []
-none_by Pass s n = absurd (n refl)
-none_by (Refused v) s n = refl
+none_by : (o : Outcome) (s : List ℕ) → (o ≡ no_refusal → ⊥) → octets_by o s ≡ []
+none_by (Ok u) s n = absurd (n refl)
+none_by (Err v) s n = refl
 
 -- a refused call writes nothing
 pub none_written : (d : Draft) (out : List ℕ) → ((writing d out).verdict.number ≡ 0 → ⊥)
@@ -52,7 +52,7 @@ module _ (d : Draft) (out : List ℕ) where
 -- ---- acceptances
 
 module _ (d : Draft) (out : List ℕ) (zero : (writing d out).verdict.number ≡ 0) where
-  passed : draft_outcome d (length out) ≡ Pass
+  passed : draft_outcome d (length out) ≡ no_refusal
   passed = (draft_number d out).0 zero
 
   -- an accepted call writes its draft's octets

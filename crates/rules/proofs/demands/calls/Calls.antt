@@ -2,6 +2,8 @@
 -- meanings of their accepted drafts are the same; the output after the calls is what they wrote and then what was
 -- there.
 use mathlib.Core.Path.{◌≡◌, refl, sym, ap, ◌∙◌}
+use Rattle.std.specs.Prelude.{Err, Ok}
+use Rattle.rules.specs.Verdict.{Outcome, no_refusal}
 use mathlib.Core.Bool.{true, not}
 use mathlib.Core.Logic.{◌↔◌}
 use mathlib.Core.List.{List, [], ◌∷◌, ◌++◌, map, append_assoc}
@@ -12,8 +14,6 @@ use lib.Dec.{ltb}
 use lib.ListN.{length, take, drop, length-append, length-take, length-drop}
 use lib.Seq.{take_at, drop_at, drop-drop, take-append_seam, drop-append_seam}
 use Rattle.rules.specs.declared.Verdict.{Verdict}
-use Rattle.rules.specs.declared.Outcome.{Outcome}
-use Rattle.rules.specs.declared.Outcome.TheVariants.{Pass, Refused}
 use Rattle.rules.specs.Header.{length_field, longest_command}
 use Rattle.rules.specs.Command.{command_outcome}
 use Rattle.rules.specs.Meaning.{Meaning, meaning_of}
@@ -38,9 +38,9 @@ pub record AcceptedDraft (d : Draft) (room : ℕ) : Type 0 where
   pub form : is_well_formed d ≡ true
   pub long : length (draft_octets d) ≤ longest_command
   pub fits : length (draft_octets d) ≤ room
-  pub pass : command_outcome (draft_octets d) ≡ Pass
+  pub pass : command_outcome (draft_octets d) ≡ no_refusal
 
-pub accepted_draft : (d : Draft) (room : ℕ) → draft_outcome d room ≡ Pass → AcceptedDraft d room
+pub accepted_draft : (d : Draft) (room : ℕ) → draft_outcome d room ≡ no_refusal → AcceptedDraft d room
 unfolding draft_outcome own_outcome
 accepted_draft d room e =
     let both = both_pass (own_outcome d room) (command_outcome (draft_octets d)) e in
@@ -57,8 +57,8 @@ accepted_draft d room e =
 -- what is written fits the room
 written_fits : (d : Draft) (room : ℕ) (o : Outcome) → draft_outcome d room ≡ o
     → length (octets_by o (draft_octets d)) ≤ room
-written_fits d room Pass e = (accepted_draft d room e).fits
-written_fits d room (Refused v) e = omega arith
+written_fits d room (Ok u) e = (accepted_draft d room e).fits
+written_fits d room (Err v) e = omega arith
 
 pub room_enough : (d : Draft) (room : ℕ) → length (octets_written d room) ≤ room
 unfolding octets_written
@@ -147,10 +147,10 @@ joined_same (m ∷ ms) (n ∷ ns) g h e =
 
 -- a draft counts exactly where its call was accepted
 module _ (d : Draft) (out : List ℕ) where
-  one_accepted : draft_outcome d (length out) ≡ Pass → if_accepted d out ≡ d ∷ []
+  one_accepted : draft_outcome d (length out) ≡ no_refusal → if_accepted d out ≡ d ∷ []
   one_accepted e = rw (eq-eqb (writing d out).verdict.number 0 ((draft_number d out).1 e))
 
-  none_accepted : {v : Verdict} → draft_outcome d (length out) ≡ Refused v → if_accepted d out ≡ []
+  none_accepted : {v : Verdict} → draft_outcome d (length out) ≡ Err v → if_accepted d out ≡ []
   none_accepted e = rw (ne_eqb (writing d out).verdict.number 0 (λ z. never (sym e ∙ (draft_number d out).0 z)))
 
 -- the octets of the accepted drafts' meanings, end to end, are what was written

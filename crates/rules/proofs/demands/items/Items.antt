@@ -1,18 +1,18 @@
 -- AVPs in walk order as their octets stand: the cell that belongs to the meaning, and the padding. Walk order is the
 -- order of the octets, and a read group is its header, followed by its members.
 use mathlib.Core.Path.{◌≡◌}
+use Rattle.std.specs.Prelude.{Err, Ok}
 use Prim.Native.Nat.{ℕ, ◌+◌, ◌-◌, ◌^◌, ◌≤◌, ◌<◌}
 use mathlib.Core.Bool.{Bool, true, cond, ◌&&◌}
 use mathlib.Core.List.{List, [], ◌∷◌, ◌++◌, map}
 use lib.ListN.{length}
 use lib.Dec.{ltb, leb, eqb}
 use Rattle.rules.specs.declared.Avp.{Avp}
-use Rattle.rules.specs.declared.Outcome.{Outcome}
-use Rattle.rules.specs.declared.Outcome.TheVariants.{Pass, Refused}
 use Rattle.rules.specs.Octets.{padded}
-use Rattle.rules.specs.Verdict.{verdict}
+use Rattle.rules.specs.Verdict.{verdict, Outcome}
 use Rattle.rules.specs.Avp.{header_of}
-use Rattle.rules.specs.Dictionary.{Entry, find}
+use Rattle.rules.specs.declared.Entry.{Entry}
+use Rattle.rules.specs.Dictionary.{find}
 use Rattle.rules.specs.Walk.{Walked, whole, stopped, after, most_avps, contents}
 use Rattle.rules.specs.Meaning.{Cell, is_read_group}
 use Rattle.rules.specs.Wire.{has_vendor, avp_header}
@@ -93,8 +93,8 @@ pub record Listed (dict : List Entry) (depth : ℕ) (xs : List Item) : Type 0 wh
 
 -- what the walk makes of items in walk order: checks 1 and 3 to 7 of each, and the AVPs
 abbrev pub go_on : Outcome → Avp → Walked → Walked
-go_on Pass a w = after (a ∷ []) w
-go_on (Refused v) a w = stopped [] v
+go_on (Ok u) a w = after (a ∷ []) w
+go_on (Err v) a w = stopped [] v
 
 unfoldable pub judged : List Entry → List ℕ → ℕ → ℕ → List Item → Walked
 judged dict s count at [] = whole []

@@ -11,7 +11,7 @@ use lib.Dec.{ltb}
 use lib.ListN.{length}
 use Rattle.rules.specs.Octets.{padded}
 use Rattle.rules.specs.Avp.{header_of}
-use Rattle.rules.specs.Dictionary.{Entry}
+use Rattle.rules.specs.declared.Entry.{Entry}
 use Rattle.rules.specs.Walk.{deepest}
 use Rattle.rules.specs.Meaning.{Cell}
 use Rattle.rules.specs.Wire.{has_vendor}

@@ -10,7 +10,7 @@ use borrow.Author.Tests.{lt-ltb, le-ltb, le-leb, eq-eqb, leb-true, eqb-true, ltb
 use lib.Dec.{ltb, leb, eqb}
 use Rattle.rules.specs.Octets.{padded}
 use Rattle.rules.specs.Avp.{header_of}
-use Rattle.rules.specs.Dictionary.{Entry}
+use Rattle.rules.specs.declared.Entry.{Entry}
 use Rattle.rules.specs.Walk.{deepest}
 use Rattle.rules.specs.Meaning.{Cell, is_read_group}
 use Rattle.rules.specs.Wire.{has_vendor}

@@ -2,6 +2,7 @@
 -- lacks 0 but for acceptance, so the number is 0 exactly when the command, or the draft, is accepted. The reader's
 -- place, vendor and code go with the number.
 use mathlib.Core.Path.{◌≡◌, refl, sym, ap, ◌∙◌}
+use Rattle.std.specs.Prelude.{Err, Ok}
 use mathlib.Core.Bool.{Bool, true, false, not, ◌&&◌, ◌||◌}
 use mathlib.Core.List.{List, ◌∷◌}
 use mathlib.Core.Logic.{◌↔◌}
@@ -11,9 +12,7 @@ use borrow.Author.Tests.{lt-ltb, ltb-true, eq-eqb, ne_eqb}
 use lib.Dec.{ltb, eqb}
 use lib.ListN.{length}
 use Rattle.rules.specs.declared.Verdict.{Verdict}
-use Rattle.rules.specs.declared.Outcome.{Outcome}
-use Rattle.rules.specs.declared.Outcome.TheVariants.{Pass, Refused}
-use Rattle.rules.specs.Verdict.{reader_numbers, writer_only_numbers, writer_numbers, is_among, verdict_of}
+use Rattle.rules.specs.Verdict.{reader_numbers, writer_only_numbers, writer_numbers, is_among, verdict_of, Outcome, no_refusal}
 use Rattle.rules.specs.Header.{header_outcome, longest_command}
 use Rattle.rules.specs.Dictionary.{dictionary}
 use Rattle.rules.specs.Walk.{Walked, whole, stopped, stop_of}
@@ -79,8 +78,8 @@ command_readers s =
 -- place, vendor and code go with the number, in acceptance too
 fits_told : (s : List ℕ) (o : Outcome) → meets (is_readers s) o ≡ true → fits_table (verdict_of o) ≡ true
 unfolding meets fits_table
-fits_told s Pass h = refl
-fits_told s (Refused v) h =
+fits_told s (Ok u) h = refl
+fits_told s (Err v) h =
     (and_true (is_among reader_numbers v.number) (fits_table v) (and_true (is_among reader_numbers v.number && fits_table v) (only_long s v) h).0).1
 
 pub command_fits : (s : List ℕ) → fits_table (command_verdict s) ≡ true
@@ -91,8 +90,8 @@ command_fits s = fits_told s (command_outcome s) (command_readers s)
 long_told : (s : List ℕ) (o : Outcome) → meets (is_readers s) o ≡ true → (verdict_of o).number ≡ 7001
     → ltb longest_command (length s) ≡ true
 unfolding meets
-long_told s Pass h e = absurd (omega arith)
-long_told s (Refused v) h e =
+long_told s (Ok u) h e = absurd (omega arith)
+long_told s (Err v) h e =
     let last = (and_true (is_among reader_numbers v.number && fits_table v) (only_long s v) h).1 in
     rw (eq-eqb v.number 7001 e) at last
 
@@ -114,8 +113,8 @@ is_numbered = number_in reader_numbers
 
 readers_numbered : (s : List ℕ) (o : Outcome) → meets (is_readers s) o ≡ true → is_numbered o ≡ true
 unfolding meets
-readers_numbered s Pass h = refl
-readers_numbered s (Refused v) h =
+readers_numbered s (Ok u) h = refl
+readers_numbered s (Err v) h =
     (and_true (is_among reader_numbers v.number) (fits_table v) (and_true (is_among reader_numbers v.number && fits_table v) (only_long s v) h).0).0
 
 command_numbered : (s : List ℕ) → is_numbered (command_outcome s) ≡ true
@@ -124,8 +123,8 @@ command_numbered s = readers_numbered s (command_outcome s) (command_readers s)
 -- what the reader gives, the writer may give
 writers_too : (o : Outcome) → is_numbered o ≡ true → number_in writer_numbers o ≡ true
 unfolding meets writer_only_numbers
-writers_too Pass h = refl
-writers_too (Refused v) h =
+writers_too (Ok u) h = refl
+writers_too (Err v) h =
     let n = v.number in
     or_right (eqb n 7004) _ (or_right (eqb n 7006) (is_among reader_numbers n) h)
 
@@ -144,8 +143,8 @@ draft_numbered d room =
 -- it is 0 or one of the list
 in_table : (ns : List ℕ) (o : Outcome) → number_in ns o ≡ true → is_among (0 ∷ ns) (verdict_of o).number ≡ true
 unfolding meets
-in_table ns Pass h = refl
-in_table ns (Refused v) h = or_right (eqb v.number 0) (is_among ns v.number) h
+in_table ns (Ok u) h = refl
+in_table ns (Err v) h = or_right (eqb v.number 0) (is_among ns v.number) h
 
 -- a number of a list that lacks m is not m
 not_among : (ns : List ℕ) (m n : ℕ) → is_among ns m ≡ false → is_among ns n ≡ true → n ≡ m → ⊥
@@ -153,10 +152,10 @@ not_among ns m n lacks h e = not_both (is_among ns m) (rw e at h) lacks
 
 -- the number of a list that lacks 0 tells acceptance
 number_tells : (ns : List ℕ) (o : Outcome) → is_among ns 0 ≡ false → number_in ns o ≡ true
-    → ((verdict_of o).number ≡ 0) ↔ (o ≡ Pass)
+    → ((verdict_of o).number ≡ 0) ↔ (o ≡ no_refusal)
 unfolding meets
-number_tells ns Pass lacks h = (λ z. refl, λ e. refl)
-number_tells ns (Refused v) lacks h =
+number_tells ns (Ok u) lacks h = (λ z. refl, λ e. refl)
+number_tells ns (Err v) lacks h =
     (λ z. absurd (not_among ns 0 v.number lacks h z), λ e. ap (λ (o : Outcome). (verdict_of o).number) e)
 
 -- the reader's numbers
@@ -181,16 +180,16 @@ unfolding writing
 draft_table d out = in_table writer_numbers (draft_outcome d (length out)) (draft_numbered d (length out))
 
 -- the number is 0 exactly when the command, or the draft, is accepted
-pub command_number : (s : List ℕ) → ((command_verdict s).number ≡ 0) ↔ (command_outcome s ≡ Pass)
+pub command_number : (s : List ℕ) → ((command_verdict s).number ≡ 0) ↔ (command_outcome s ≡ no_refusal)
 unfolding command_verdict reader_numbers
 command_number s = number_tells reader_numbers (command_outcome s) refl (command_numbered s)
 
 pub draft_number : (d : Draft) (out : List ℕ)
-    → ((writing d out).verdict.number ≡ 0) ↔ (draft_outcome d (length out) ≡ Pass)
+    → ((writing d out).verdict.number ≡ 0) ↔ (draft_outcome d (length out) ≡ no_refusal)
 unfolding writing writer_only_numbers reader_numbers
 draft_number d out = number_tells writer_numbers (draft_outcome d (length out)) refl (draft_numbered d (length out))
 
 -- so no refusal of a command has the number 0
-pub command_refusal : (s : List ℕ) (v : Verdict) → command_outcome s ≡ Refused v → v.number ≡ 0 → ⊥
+pub command_refusal : (s : List ℕ) (v : Verdict) → command_outcome s ≡ Err v → v.number ≡ 0 → ⊥
 unfolding command_verdict
 command_refusal s v e z = never (sym e ∙ (command_number s).0 (ap (λ (o : Outcome). (verdict_of o).number) e ∙ z))

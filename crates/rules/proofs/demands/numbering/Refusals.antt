@@ -2,6 +2,7 @@
 -- each way in which 01 joins its checks keeps it. Here the header's checks and the walk; rows and exchange rules are in
 -- ListRefusals, whole commands and drafts in Numbering.
 use mathlib.Core.Path.{◌≡◌, refl}
+use Rattle.std.specs.Prelude.{Err, Ok}
 use mathlib.Core.Bool.{Bool, true, false, cond, not, ◌||◌}
 use mathlib.Core.List.{List, [], ◌∷◌}
 use Prim.Native.Nat.{ℕ, zero, suc, ◌%◌, ◌<◌}
@@ -10,16 +11,12 @@ use lib.Dec.{ltb, eqb}
 use lib.ListN.{length}
 use Rattle.rules.specs.declared.Avp.{Avp}
 use Rattle.rules.specs.declared.Verdict.{Verdict}
-use Rattle.rules.specs.declared.Outcome.{Outcome}
-use Rattle.rules.specs.declared.Outcome.TheVariants.{Pass, Refused}
-use Rattle.rules.specs.declared.Checked.{Checked}
-use Rattle.rules.specs.declared.Checked.TheVariants.{Fault, Plain, Group}
-use Rattle.rules.specs.declared.Definition.{Definition}
-use Rattle.rules.specs.Verdict.{verdict, or_else}
+use Rattle.rules.specs.Verdict.{verdict, or_else, Outcome, no_refusal}
 use Rattle.rules.specs.Header.{header_size, length_field, longest_command, command_flags, length_outcome, application_outcome, flags_outcome, header_outcome}
 use Rattle.rules.specs.Avp.{avp_at}
-use Rattle.rules.specs.Dictionary.{Entry, defined, is_group}
-use Rattle.rules.specs.Walk.{Standing, is_full, framing, contents, settled, checked, Walked, whole, stopped, stop_of, after, and_then, in_group, behind, entered, walk_avp, walk_list}
+use Rattle.rules.specs.declared.Entry.{Entry}
+use Rattle.rules.specs.Dictionary.{defined, is_group, Definition}
+use Rattle.rules.specs.Walk.{Standing, is_full, framing, contents, settled, checked, Walked, whole, stopped, stop_of, after, and_then, in_group, behind, entered, walk_avp, walk_list, Checked, Fault, Plain, Group}
 use Rattle.rules.proofs.Tests.{neither}
 use Rattle.rules.proofs.Walk.{by_cases, list_none, list_end, list_more}
 
@@ -27,8 +24,8 @@ use Rattle.rules.proofs.Walk.{by_cases, list_none, list_end, list_more}
 
 -- a refusal meets a test
 unfoldable pub meets : (Verdict → Bool) → Outcome → Bool
-meets t Pass = true
-meets t (Refused v) = t v
+meets t (Ok u) = true
+meets t (Err v) = t v
 
 -- the header's refusals: a test holds of each. 7001 is for those alone that are longer than 16,384
 pub record HeaderRefusals (s : List ℕ) (t : Verdict → Bool) : Type 0 where
@@ -62,8 +59,8 @@ module _ (t : Verdict → Bool) where
   either false o p = refl
 
   pub in_turn : (o p : Outcome) → meets t o ≡ true → meets t p ≡ true → meets t (or_else o p) ≡ true
-  in_turn Pass p f g = g
-  in_turn (Refused v) p f g = f
+  in_turn (Ok u) p f g = g
+  in_turn (Err v) p f g = f
 
 -- ---- the header
 
@@ -100,9 +97,9 @@ module _ (s : List ℕ) (t : Verdict → Bool) (r : HeaderRefusals s t) where
 
 -- of a check that found a fault
 abbrev fault_of : Checked → Outcome
-fault_of (Fault v) = Refused v
-fault_of (Plain a) = Pass
-fault_of (Group a) = Pass
+fault_of (Fault v) = Err v
+fault_of (Plain a) = no_refusal
+fault_of (Group a) = no_refusal
 
 module _ (t : Verdict → Bool) (r : AvpRefusals t) where
   framing_meets : (s : List ℕ) (at end : ℕ) → meets t (framing s at end) ≡ true
@@ -115,8 +112,8 @@ module _ (t : Verdict → Bool) (r : AvpRefusals t) where
 
   settled_meets : (o : Outcome) (c : Checked) → meets t o ≡ true → meets t (fault_of c) ≡ true
       → meets t (fault_of (settled o c)) ≡ true
-  settled_meets Pass c f g = g
-  settled_meets (Refused v) c f g = f
+  settled_meets (Ok u) c f g = g
+  settled_meets (Err v) c f g = f
 
   kind_meets : (b : Bool) (a : Avp) → meets t (fault_of (cond b (Group a) (Plain a))) ≡ true
   unfolding meets

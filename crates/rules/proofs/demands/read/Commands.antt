@@ -1,11 +1,11 @@
 -- An accepted command: its header's fields, and the items that its list is made of.
 use mathlib.Core.Path.{◌≡◌, sym, ap, ◌∙◌}
+use Rattle.rules.specs.Verdict.{no_refusal}
 use mathlib.Core.List.{List, [], ◌++◌, map, append-nil}
 use Prim.Native.Nat.{ℕ, ◌+◌, ◌≤◌}
 use native.Mathlib.Omega.{arith}
 use lib.ListN.{length, drop}
 use lib.Seq.{drop-length}
-use Rattle.rules.specs.declared.Outcome.TheVariants.{Pass}
 use Rattle.rules.specs.Octets.{AreOctets}
 use Rattle.rules.specs.Dictionary.{dictionary}
 use Rattle.rules.specs.Walk.{whole, avps_of}
@@ -28,9 +28,9 @@ pub record AcceptedItems (c : List ℕ) : Type 0 where
   pub walk_is : walk_of c ≡ whole (avps_at 20 items)
   pub judged_is : judged dictionary c 0 20 items ≡ whole (avps_at 20 items)
   pub few : length items ≤ 256
-  pub lists : lists_outcome c (avps_at 20 items) ≡ Pass
+  pub lists : lists_outcome c (avps_at 20 items) ≡ no_refusal
 
-pub accepted_items : (c : List ℕ) → AreOctets c → command_outcome c ≡ Pass → AcceptedItems c
+pub accepted_items : (c : List ℕ) → AreOctets c → command_outcome c ≡ no_refusal → AcceptedItems c
 unfolding walk_of
 accepted_items c oct e =
     let w = passed_command c e in

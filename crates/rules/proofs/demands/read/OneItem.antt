@@ -1,5 +1,6 @@
 -- One AVP that passed its checks: its octets are the header that the writer gives to its cell, data and padding.
 use mathlib.Core.Path.{◌≡◌, refl, sym, ap, ◌∙◌}
+use Rattle.rules.specs.Verdict.{no_refusal}
 use mathlib.Core.Bool.{true, false, cond, ◌&&◌}
 use mathlib.Core.List.{List, [], ◌∷◌, ◌++◌, append_assoc}
 use Prim.Native.Nat.{ℕ, ◌+◌, ◌-◌, ◌*◌, ◌/◌, ◌%◌, ◌^◌, ◌≤◌, ◌<◌}
@@ -9,10 +10,10 @@ use borrow.Author.Tests.{eqb-true, eqb-false}
 use lib.Dec.{eqb, lit<}
 use lib.ListN.{length, take, drop, length-drop}
 use lib.Seq.{length-take-le}
-use Rattle.rules.specs.declared.Outcome.TheVariants.{Pass}
 use Rattle.rules.specs.Octets.{AreOctets, number_at, flag, padded, octets}
 use Rattle.rules.specs.Avp.{code_at, flags_at, flag_v, flag_m, flag_p, length_at, header_of, vendor_at, next_at, avp_at}
-use Rattle.rules.specs.Dictionary.{Entry, defined}
+use Rattle.rules.specs.declared.Entry.{Entry}
+use Rattle.rules.specs.Dictionary.{defined}
 use Rattle.rules.specs.Walk.{framing, contents}
 use Rattle.rules.specs.Meaning.{Cell, is_read_group, cell_of}
 use Rattle.rules.specs.Wire.{has_vendor, avp_flags, vendor_octets, avp_header}
@@ -81,8 +82,8 @@ cell_at_is dict s at depth = refl
 pub record Passing (dict : List Entry) (s : List ℕ) (at end depth : ℕ) : Type 0 where
   pub octets : AreOctets s
   pub inside : end ≤ length s
-  pub frame : framing s at end ≡ Pass
-  pub pass : contents s at (avp_at s at depth) (defined dict (avp_at s at depth)) ≡ Pass
+  pub frame : framing s at end ≡ no_refusal
+  pub pass : contents s at (avp_at s at depth) (defined dict (avp_at s at depth)) ≡ no_refusal
 
 module _ {dict : List Entry} {s : List ℕ} {at end depth : ℕ} (p : Passing dict s at end depth) where
   right : (flags_at s at % 32 ≡ 0) × ((flag_v (flags_at s at) && eqb (vendor_at s at) 0) ≡ false)

@@ -1,5 +1,7 @@
 -- What is read was written: a walk that ends whole found items that make a list, and its octets are theirs.
 use mathlib.Core.Path.{◌≡◌, refl, sym, ap, ◌∙◌}
+use Rattle.std.specs.Prelude.{Err, Ok}
+use Rattle.rules.specs.Verdict.{Outcome, no_refusal}
 use mathlib.Core.Bool.{true, false}
 use mathlib.Core.List.{List, [], ◌∷◌, ◌++◌, append_assoc}
 use Prim.Native.Nat.{ℕ, zero, suc, ◌+◌, ◌-◌, ◌≤◌, ◌<◌}
@@ -8,11 +10,10 @@ use borrow.Author.Tests.{ltb-true, ltb-false, leb-true, leb-false}
 use lib.Dec.{ltb, leb}
 use lib.ListN.{length, drop}
 use Rattle.rules.specs.declared.Avp.{Avp}
-use Rattle.rules.specs.declared.Outcome.{Outcome}
-use Rattle.rules.specs.declared.Outcome.TheVariants.{Pass, Refused}
 use Rattle.rules.specs.Octets.{AreOctets, padded}
 use Rattle.rules.specs.Avp.{code_at, length_at, vendor_at, next_at, avp_at}
-use Rattle.rules.specs.Dictionary.{Entry, defined, is_group}
+use Rattle.rules.specs.declared.Entry.{Entry}
+use Rattle.rules.specs.Dictionary.{defined, is_group}
 use Rattle.rules.specs.Walk.{standing, framing, contents, Walked, whole, stopped, after, and_then, walk_avp, walk_list}
 use Rattle.rules.specs.Meaning.{is_read_group}
 use Rattle.rules.specs.Wire.{avp_header}
@@ -178,13 +179,13 @@ module _ (dict : List Entry) (s : List ℕ) (oct : AreOctets s) (n : ℕ) (ih : 
           (ih (at + header_at s at) (at + length_at s at) (depth + 1) (count + 1) i.0
           (omega arith) (omega arith) (omega (arith, f)) (omega (arith, f)) (omega (arith, f)) within)
 
-    sound_contents : framing s at end ≡ Pass → (o : Outcome)
+    sound_contents : framing s at end ≡ no_refusal → (o : Outcome)
         → contents s at (avp_at s at depth) (defined dict (avp_at s at depth)) ≡ o
         → Found dict s at end depth xs
-    sound_contents frame Pass pass =
+    sound_contents frame (Ok u) pass =
         let p : Passing dict s at end depth = record { octets = oct; inside = inside; frame = frame; pass = pass } in
         by_cases (is_group (defined dict (avp_at s at depth))) (sound_group p) (sound_plain p)
-    sound_contents frame (Refused v) f =
+    sound_contents frame (Err v) f =
         let a = avp_at s at depth in
         never_whole
         (turn dict s n at end depth count xs more e (stopped [] v)
@@ -192,8 +193,8 @@ module _ (dict : List Entry) (s : List ℕ) (oct : AreOctets s) (n : ℕ) (ih : 
         (checked_content dict s (standing at end depth count) few frame a refl (defined dict a) refl f)))
 
     sound_framing : (o : Outcome) → framing s at end ≡ o → Found dict s at end depth xs
-    sound_framing Pass f = sound_contents f (contents s at (avp_at s at depth) (defined dict (avp_at s at depth))) refl
-    sound_framing (Refused v) f =
+    sound_framing (Ok u) f = sound_contents f (contents s at (avp_at s at depth) (defined dict (avp_at s at depth))) refl
+    sound_framing (Err v) f =
         never_whole (turn dict s n at end depth count xs more e (stopped [] v)
         (avp_fault (walk_list n dict s) dict s (standing at end depth count) (checked_frame dict s (standing at end depth count) few f)))
 

@@ -1,5 +1,6 @@
 -- The AVPs that a walk gives over the octets of items have the items' cells, and a walk that is whole met no limit.
 use mathlib.Core.Path.{◌≡◌, refl, sym, ap, ◌∙◌}
+use Rattle.rules.specs.Verdict.{no_refusal}
 use mathlib.Core.List.{List, [], ◌∷◌, ◌++◌, map}
 use Prim.Native.Nat.{ℕ, ◌+◌, ◌≤◌, ◌<◌}
 use native.Mathlib.Omega.{arith}
@@ -9,9 +10,8 @@ use lib.ListN.{length, take, drop}
 use lib.Seq.{take_at}
 use Rattle.rules.specs.declared.Avp.{Avp}
 use Rattle.rules.specs.declared.Verdict.{Verdict}
-use Rattle.rules.specs.declared.Outcome.TheVariants.{Pass}
 use Rattle.rules.specs.Avp.{header_of}
-use Rattle.rules.specs.Dictionary.{Entry}
+use Rattle.rules.specs.declared.Entry.{Entry}
 use Rattle.rules.specs.Walk.{most_avps, Walked, whole, stopped, after}
 use Rattle.rules.specs.Meaning.{cell_of}
 use Rattle.rules.specs.Wire.{has_vendor, avp_header}
@@ -56,7 +56,7 @@ module _ (dict : List Entry) (s : List ℕ) where
   -- the first item of a walk that is whole passes, below the limit; the walk of the others is whole
   pub record FirstPasses (x : Item) (xs : List Item) (count at : ℕ) (avps : List Avp) : Type 0 where
     pub few : count < most_avps
-    pub pass : contents_of dict s at x ≡ Pass
+    pub pass : contents_of dict s at x ≡ no_refusal
     pub rest : List Avp
     pub rest_is : judged dict s (count + 1) (at + step x) xs ≡ whole rest
     pub first_is : avps ≡ avp_of at x ∷ rest

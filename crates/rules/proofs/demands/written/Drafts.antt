@@ -1,6 +1,7 @@
 -- A draft that is well formed and not too long has a meaning that can be written; if the reader accepts its octets,
 -- they have the draft's meaning.
 use mathlib.Core.Path.{◌≡◌, refl, sym, ap, ◌∙◌}
+use Rattle.rules.specs.Verdict.{no_refusal}
 use mathlib.Core.Bool.{true, cond, ◌&&◌}
 use mathlib.Core.List.{List, [], ◌∷◌, map}
 use Prim.Native.Nat.{ℕ, ◌+◌, ◌^◌, ◌≤◌, ◌<◌, min}
@@ -11,10 +12,10 @@ use lib.ListN.{length, take, drop, length-append, length-drop, length-replicate,
 use lib.Seq.{length-take-le}
 use Rattle.rules.specs.declared.Avp.{Avp}
 use Rattle.rules.specs.declared.Record.{Record}
-use Rattle.rules.specs.declared.Outcome.TheVariants.{Pass}
 use Rattle.rules.specs.Header.{longest_command}
 use Rattle.rules.specs.Avp.{header_of, end_of}
-use Rattle.rules.specs.Dictionary.{Entry, dictionary}
+use Rattle.rules.specs.declared.Entry.{Entry}
+use Rattle.rules.specs.Dictionary.{dictionary}
 use Rattle.rules.specs.Walk.{most_avps}
 use Rattle.rules.specs.Command.{command_outcome}
 use Rattle.rules.specs.Record.{recorded}
@@ -209,7 +210,7 @@ module _ (d : Draft) (form : is_well_formed d ≡ true) (long : length (draft_oc
 
 -- what is written is read: the octets of an accepted draft have its meaning
 pub draft_meaning_lem : (d : Draft) → is_well_formed d ≡ true → length (draft_octets d) ≤ longest_command
-    → command_outcome (draft_octets d) ≡ Pass
+    → command_outcome (draft_octets d) ≡ no_refusal
     → meaning_of (draft_octets d) ≡ draft_meaning d
 draft_meaning_lem d form long e =
     let w = passed_command (draft_octets d) e in

@@ -1,5 +1,6 @@
 -- One item at a place: the reader finds the fields of its cell there, its framing passes, and the AVP is the item's.
 use mathlib.Core.Path.{◌≡◌, refl, sym, ap, ◌∙◌}
+use Rattle.rules.specs.Verdict.{no_refusal}
 use mathlib.Core.Bool.{false, not}
 use mathlib.Core.List.{List, [], ◌∷◌, ◌++◌, append_assoc}
 use Prim.Native.Nat.{ℕ, ◌+◌, ◌-◌, ◌≤◌}
@@ -8,10 +9,9 @@ use native.Mathlib.Omega.{arith}
 use borrow.Author.Tests.{eqb-true, not-false}
 use lib.Dec.{eqb}
 use lib.ListN.{drop}
-use Rattle.rules.specs.declared.Outcome.TheVariants.{Pass}
 use Rattle.rules.specs.Octets.{padded, octets}
 use Rattle.rules.specs.Avp.{code_at, flags_at, flag_v, flag_m, flag_p, length_at, header_of, vendor_at, next_at, avp_at}
-use Rattle.rules.specs.Dictionary.{Entry}
+use Rattle.rules.specs.declared.Entry.{Entry}
 use Rattle.rules.specs.Walk.{framing}
 use Rattle.rules.specs.Meaning.{Cell}
 use Rattle.rules.specs.Wire.{has_vendor, avp_flags, vendor_octets, avp_header}
@@ -88,7 +88,7 @@ next_found s at c f = rw (f.length-is, padded_header (has_vendor c) c.length)
 
 -- check 2 passes where the list has room
 pub framing_found : (s : List ℕ) (at end : ℕ) (c : Cell) → HeaderAt s at c
-    → header_of (has_vendor c) + padded c.length ≤ end - at → framing s at end ≡ Pass
+    → header_of (has_vendor c) + padded c.length ≤ end - at → framing s at end ≡ no_refusal
 framing_found s at end c f room =
     let v = flag_v (flags_at s at) in
     let least = header_least (has_vendor c) in

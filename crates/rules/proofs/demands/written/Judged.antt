@@ -1,5 +1,6 @@
 -- What the checks make of items in walk order: laws of `judged`, case by case, and of items after items.
 use mathlib.Core.Path.{◌≡◌, refl, sym}
+use Rattle.std.specs.Prelude.{Err, Ok}
 use mathlib.Core.Bool.{true, false}
 use mathlib.Core.List.{List, [], ◌∷◌, ◌++◌}
 use Prim.Native.Nat.{ℕ, suc, ◌+◌}
@@ -9,19 +10,18 @@ use lib.Dec.{leb}
 use lib.ListN.{length}
 use Rattle.rules.specs.declared.Avp.{Avp}
 use Rattle.rules.specs.declared.Verdict.{Verdict}
-use Rattle.rules.specs.declared.Outcome.{Outcome}
-use Rattle.rules.specs.declared.Outcome.TheVariants.{Pass, Refused}
-use Rattle.rules.specs.Verdict.{verdict}
-use Rattle.rules.specs.Dictionary.{Entry, find}
+use Rattle.rules.specs.Verdict.{verdict, Outcome, no_refusal}
+use Rattle.rules.specs.declared.Entry.{Entry}
+use Rattle.rules.specs.Dictionary.{find}
 use Rattle.rules.specs.Walk.{most_avps, contents, Walked, whole, stopped, after, and_then}
 use Rattle.rules.proofs.Walk.{by_cases, after_nil, after_after}
 use Rattle.rules.proofs.demands.items.Items.{Item, octets_of, step, avp_of, judged}
 use Rattle.rules.proofs.demands.items.Sequences.{octets_nil, length-cons}
 
 -- an outcome is a pass or a refusal
-pub by_outcome : {C : Type 0} (o : Outcome) → (o ≡ Pass → C) → ((v : Verdict) → o ≡ Refused v → C) → C
-by_outcome Pass f g = f refl
-by_outcome (Refused v) f g = g v refl
+pub by_outcome : {C : Type 0} (o : Outcome) → (o ≡ no_refusal → C) → ((v : Verdict) → o ≡ Err v → C) → C
+by_outcome (Ok u) f g = f refl
+by_outcome (Err v) f g = g v refl
 
 pub and_after : (a : Avp) (w : Walked) (f : ℕ → Walked)
     → and_then (after (a ∷ []) w) f ≡ after (a ∷ []) (and_then w (λ k. f (suc k)))
@@ -38,12 +38,12 @@ module _ (dict : List Entry) (s : List ℕ) where
     unfolding judged
     judged_many m = rw m
 
-    pub judged_refused : {v : Verdict} → leb most_avps count ≡ false → contents_of at x ≡ Refused v
+    pub judged_refused : {v : Verdict} → leb most_avps count ≡ false → contents_of at x ≡ Err v
         → judged dict s count at (x ∷ xs) ≡ stopped [] v
     unfolding judged
     judged_refused m o = rw (m, o)
 
-    pub judged_pass : leb most_avps count ≡ false → contents_of at x ≡ Pass
+    pub judged_pass : leb most_avps count ≡ false → contents_of at x ≡ no_refusal
         → judged dict s count at (x ∷ xs) ≡ after (avp_of at x ∷ []) (judged dict s (count + 1) (at + step x) xs)
     unfolding judged
     judged_pass m o = rw (m, o)

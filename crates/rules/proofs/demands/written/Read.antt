@@ -1,6 +1,7 @@
 -- Octets of items that make a list are walked as the items: the walk gives what checks 1 and 3 to 7 make of them in
 -- order. It holds for every dictionary and every bound on the steps that is enough.
 use mathlib.Core.Path.{◌≡◌, refl, sym, ap, ◌∙◌}
+use Rattle.std.specs.Prelude.{Err}
 use mathlib.Core.Bool.{true, false}
 use mathlib.Core.List.{List, [], ◌∷◌, ◌++◌, append_assoc}
 use Prim.Native.Nat.{ℕ, zero, suc, ◌+◌, ◌-◌, ◌≤◌, ◌<◌}
@@ -10,11 +11,10 @@ use borrow.Author.Tests.{leb-true, leb-false}
 use lib.Dec.{leb}
 use lib.ListN.{length, drop}
 use Rattle.rules.specs.declared.Verdict.{Verdict}
-use Rattle.rules.specs.declared.Outcome.TheVariants.{Pass, Refused}
 use Rattle.rules.specs.Octets.{padded}
-use Rattle.rules.specs.Verdict.{verdict}
+use Rattle.rules.specs.Verdict.{verdict, no_refusal}
 use Rattle.rules.specs.Avp.{header_of, next_at, avp_at}
-use Rattle.rules.specs.Dictionary.{Entry}
+use Rattle.rules.specs.declared.Entry.{Entry}
 use Rattle.rules.specs.Walk.{standing, most_avps, framing, stopped, after, and_then, walk_avp, walk_list}
 use Rattle.rules.specs.Wire.{has_vendor, avp_header}
 use Rattle.rules.proofs.Fields.{header_least}
@@ -55,26 +55,26 @@ module _ (dict : List Entry) (s : List ℕ) where
         few : count < 256
         few = leb-false 256 count m
 
-        pass : framing s at end ≡ Pass
+        pass : framing s at end ≡ no_refusal
         pass = framing_found s at end x.cell front room
 
         the_avp : avp_of at x ≡ avp_at s at depth
         the_avp = avp_found s at x front ∙ ap (avp_at s at) depth_is
 
-        item_refused : {v : Verdict} → contents_of dict s at x ≡ Refused v
+        item_refused : {v : Verdict} → contents_of dict s at x ≡ Err v
             → walk_list (suc n) dict s (standing at end depth count) ≡ stopped [] v
         item_refused o =
             more ∙ rw (avp_fault (walk_list n dict s) dict s (standing at end depth count)
             (checked_content dict s (standing at end depth count) few pass (avp_of at x) the_avp _ refl o))
 
-        item_plain : contents_of dict s at x ≡ Pass → is_group_cell dict x.cell ≡ false
+        item_plain : contents_of dict s at x ≡ no_refusal → is_group_cell dict x.cell ≡ false
             → walk_list (suc n) dict s (standing at end depth count)
             ≡ after (avp_of at x ∷ []) (walk_list n dict s (standing (next_at s at) end depth (count + 1)))
         item_plain o g =
             more ∙ rw (avp_plain (walk_list n dict s) dict s (standing at end depth count)
             (checked_plain dict s (standing at end depth count) few pass (avp_of at x) the_avp _ refl o g))
 
-        item_group : contents_of dict s at x ≡ Pass → is_group_cell dict x.cell ≡ true
+        item_group : contents_of dict s at x ≡ no_refusal → is_group_cell dict x.cell ≡ true
             → walk_list (suc n) dict s (standing at end depth count)
             ≡ and_then (after (avp_of at x ∷ [])
             (walk_list n dict s (standing (avp_of at x).start ((avp_of at x).start + x.cell.length) (depth + 1) (count + 1))))
