@@ -1,10 +1,16 @@
--- Laws of octets put into an output: whether they have room, and how many octets a number has.
-use mathlib.Core.Path.{◌≡◌, refl, sym, ◌∙◌}
-use mathlib.Core.List.{List}
-use Prim.Native.Nat.{ℕ, ◌+◌, ◌≤◌, ◌<◌}
-use borrow.Author.Tests.{le-leb, lt-leb}
-use lib.ListN.{length}
-use lib.Seq.{sets}
+-- Laws of octets put into an output: where they have room and where they have none, and the octets of a number.
+use mathlib.Core.Path.{◌≡◌, refl, sym, ap, ◌∙◌}
+use mathlib.Core.Bool.{true, false}
+use mathlib.Core.List.{List, append_assoc}
+use Prim.Native.Nat.{ℕ, ◌+◌, ◌-◌, ◌≤◌}
+use native.Mathlib.Nat.{div-one}
+use native.Mathlib.Omega.{arith}
+use borrow.Author.Tests.{le-leb, true-leb}
+use borrow.Rule.Slice.PartMut.{put_mid}
+use lib.Dec.{leb}
+use lib.ListN.{length, take, drop, replicate, length-drop, length-replicate}
+use lib.Seq.{sets, sets-eq, drop-drop, length-take-le}
+use Rattle.std.specs.Int.{w32, w64, to_be_bytes}
 use Rattle.rules.specs.Octets.{octets}
 use Rattle.output.specs.Output.{put_at}
 
@@ -16,16 +22,50 @@ pub octets_four : (n : ℕ) → length (octets 4 n) ≡ 4
 unfolding octets
 octets_four n = refl
 
+-- the octets of a number of 32 bits, and the last three of one of 64
+pub be_four : (n : ℕ) → to_be_bytes w32 n ≡ octets 4 n
+unfolding octets
+be_four n = rw (div-one n) refl
+
+pub be_three : (n : ℕ) → drop 5 (to_be_bytes w64 n) ≡ octets 3 n
+unfolding octets
+be_three n = rw (div-one n) refl
+
 module _ (out : List ℕ) (at : ℕ) (xs : List ℕ) where
+  pub put_all : at + length xs ≤ length out → sets out at xs ≡ put_at out at xs
+  unfolding put_at
+  put_all h = rw (le-leb (at + length xs) (length out) h)
+
+  -- what a caller that sees to the room takes from a promise
+  pub put_fits : (count : ℕ) → length xs ≡ count → at + count ≤ length out → (after : List ℕ) → after ≡ put_at out at xs → after ≡ sets out at xs
+  put_fits count long h after e = e ∙ sym (put_all (rw long h))
+
+  -- as the code puts them: into a part of the output that they fill
   module _ (count : ℕ) (long : length xs ≡ count) where
-    pub put_none : length out < at + count → out ≡ put_at out at xs
+    pub put_none : false ≡ leb (at + count) (length out) → out ≡ put_at out at xs
     unfolding put_at
-    put_none h = rw (long, lt-leb (at + count) (length out) h)
+    put_none no_room = rw (long, ← no_room)
 
-    pub put_all : at + count ≤ length out → sets out at xs ≡ put_at out at xs
-    unfolding put_at
-    put_all h = rw (long, le-leb (at + count) (length out) h)
+    pub put_part : true ≡ leb (at + count) (length out) → (filled : List ℕ) → filled ≡ xs
+        → put_mid at (at + count - at) out filled ≡ put_at out at xs
+    put_part room filled e =
+        let h : at + length xs ≤ length out = rw long (true-leb (at + count) (length out) room) in
+        let k : at + count - at ≡ length xs = omega arith in
+        rw (e, k, drop-drop (length xs) at out)
+        (sym (sets-eq xs out at h ∙ append_assoc (take at out) xs (drop (at + length xs) out)))
+        ∙ put_all h
 
-    -- what a caller that sees to the room takes from a promise
-    pub put_fits : at + count ≤ length out → (after : List ℕ) → after ≡ put_at out at xs → after ≡ sets out at xs
-    put_fits h after e = e ∙ sym (put_all h)
+-- zeros, as many as the part has octets
+module _ (out : List ℕ) (at count : ℕ) where
+  pub zeros_none : false ≡ leb (at + count) (length out) → out ≡ put_at out at (replicate count 0)
+  zeros_none = put_none out at (replicate count 0) count (length-replicate count 0)
+
+  pub zeros_part : true ≡ leb (at + count) (length out) → (filled : List ℕ)
+      → filled ≡ replicate (length (take (at + count - at) (drop at out))) 0
+      → put_mid at (at + count - at) out filled ≡ put_at out at (replicate count 0)
+  zeros_part room filled e =
+      let h : at + count ≤ length out = true-leb (at + count) (length out) room in
+      let long : length (take (at + count - at) (drop at out)) ≡ count =
+      length-take-le (at + count - at) (drop at out) (simp length-drop (omega arith)) ∙ omega arith in
+      put_part out at (replicate count 0) count (length-replicate count 0) room filled
+      (e ∙ ap (λ (n : ℕ). replicate n 0) long)

@@ -1,70 +1,48 @@
-// Octets put into a lent output from a place on: numbers of 3 and 4 octets, big-endian, by one law over the width;
-// octets as they stand, and zeros. What has no room there leaves the output as it was, so each function takes any
-// place.
+// Octets put into a lent output from a place on: octets as they stand, numbers of 3 and 4 octets, big-endian, and
+// zeros. What has no room there leaves the output as it was, so each function takes any place.
 #![tactic(auto)]
 
-ghost use Rattle.std.specs.Prelude.{◌≡◌, replicate};
+ghost use Rattle.std.specs.Prelude.{◌≡◌, ◌+◌, leb, length, replicate};
 ghost use Rattle.rules.specs.Octets.{octets};
 ghost use Rattle.output.specs.Output.{put_at};
 
-// The last three octets of a number.
-pub fn put_number3(out: &mut [u8], at: usize, n: usize)
-    ensures { out.new ≡ put_at out.old at (octets 3 n) }
+// Whether so many octets have room from a place on. It is asked before a part of the output is lent, since the check
+// does not know how an output ends whose part `get_mut` lent.
+fn has_room(out: &[u8], at: usize, count: usize) -> bool
+    ensures { result ≡ leb (at + count) (length out.now) }
 {
-    if out.len() < 3 {
-        return;
-    }
-    if out.len() - 3 < at {
-        return;
-    }
-    out[at] = (n / 65536 % 256) as u8;
-    out[at + 1] = (n / 256 % 256) as u8;
-    out[at + 2] = (n % 256) as u8;
+    count <= out.len() && at <= out.len() - count
 }
 
-pub fn put_number4(out: &mut [u8], at: usize, n: u32)
-    ensures { out.new ≡ put_at out.old at (octets 4 n) }
-{
-    if out.len() < 4 {
-        return;
-    }
-    if out.len() - 4 < at {
-        return;
-    }
-    out[at] = (n / 16777216 % 256) as u8;
-    out[at + 1] = (n / 65536 % 256) as u8;
-    out[at + 2] = (n / 256 % 256) as u8;
-    out[at + 3] = (n % 256) as u8;
-}
-
+#[tactic(auto, using(crate::proofs::Output::put_none, crate::proofs::Output::put_part))]
 pub fn put_octets(out: &mut [u8], at: usize, s: &[u8])
     ensures { out.new ≡ put_at out.old at s.now }
 {
-    if out.len() < s.len() {
-        return;
-    }
-    if out.len() - s.len() < at {
-        return;
-    }
-    let mut i: usize = 0;
-    while i < s.len() {
-        out[at + i] = s[i];
-        i += 1;
+    if has_room(out, at, s.len()) {
+        out[at..at + s.len()].copy_from_slice(s);
     }
 }
 
+// The last three octets of a number.
+#[tactic(auto, using(crate::proofs::Output::be_three))]
+pub fn put_number3(out: &mut [u8], at: usize, n: usize)
+    ensures { out.new ≡ put_at out.old at (octets 3 n) }
+{
+    put_octets(out, at, &n.to_be_bytes()[5..]);
+}
+
+#[tactic(auto, using(crate::proofs::Output::be_four))]
+pub fn put_number4(out: &mut [u8], at: usize, n: u32)
+    ensures { out.new ≡ put_at out.old at (octets 4 n) }
+{
+    put_octets(out, at, &n.to_be_bytes());
+}
+
+#[tactic(auto, using(crate::proofs::Output::zeros_none, crate::proofs::Output::zeros_part))]
 pub fn put_zeros(out: &mut [u8], at: usize, count: usize)
     ensures { out.new ≡ put_at out.old at (replicate count 0) }
 {
-    if out.len() < count {
-        return;
-    }
-    if out.len() - count < at {
-        return;
-    }
-    let mut i: usize = 0;
-    while i < count {
-        out[at + i] = 0;
-        i += 1;
+    if has_room(out, at, count) {
+        out[at..at + count].fill(0);
     }
 }

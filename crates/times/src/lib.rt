@@ -5,16 +5,17 @@ ghost use Rattle.std.specs.Prelude.{◌≡◌};
 ghost use Rattle.rules.specs.Times.{moment, is_before, seconds};
 
 use rules::limits;
-use std::num;
 
 // The moment that a Time says.
+#[tactic(auto, unfolding(rules::specs::Times::moment))]
 fn moment(time: u32) -> u32
     ensures { result ≡ moment time }
 {
-    num::wrapping_add_u32(time, limits::HALF_RANGE)
+    time.wrapping_add(limits::HALF_RANGE)
 }
 
 // The order of two times.
+#[tactic(auto, unfolding(rules::specs::Times::is_before))]
 pub fn is_before(start: u32, end: u32) -> bool
     ensures { result ≡ is_before start end }
 {
@@ -22,8 +23,9 @@ pub fn is_before(start: u32, end: u32) -> bool
 }
 
 // The signed number of seconds from start to end.
+#[tactic(auto, unfolding(rules::specs::Times::seconds))]
 pub fn seconds(start: u32, end: u32) -> i64
     ensures { result ≡ seconds start end }
 {
-    moment(end) as i64 - moment(start) as i64
+    i64::from(moment(end)) - i64::from(moment(start))
 }

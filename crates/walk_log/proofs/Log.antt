@@ -12,7 +12,7 @@ use lib.Seq.{get_or-drop}
 use Rattle.rules.specs.declared.Avp.{Avp}
 use Rattle.rules.specs.Avp.{end_of}
 use Rattle.rules.specs.Search.{blank, avp_in}
-use Rattle.walk_log.specs.Log.{bit, numbers_at, put_avp, put_family, avp_from, avp_of, entry_at, after_at, avps_from, avps_in}
+use Rattle.walk_log.specs.Log.{AreNumbersOf, bit, numbers_at, put_avp, put_family, avp_from, avp_of, entry_at, after_at, avps_from, avps_in}
 
 module _ (log : List ℕ) (i : ℕ) where
   pub avp_of_out : 256 ≤ i → avp_of log i ≡ blank
@@ -23,33 +23,54 @@ module _ (log : List ℕ) (i : ℕ) where
   unfolding avp_of
   avp_of_in h = rw (lt-ltb i 256 h)
 
-  -- as the code reads them: an AVP number by number, and its depth alone
-  pub avp_of_by : i < 256 → (length : ℕ) → length ≡ get_or log (i * 9 + 6) 0 - get_or log (i * 9 + 5) 0
-      → ◌≡◌ {A = Avp}
-      record {
-        depth = get_or log (i * 9) 0;
-        vendor = get_or log (i * 9 + 1) 0;
-        code = get_or log (i * 9 + 2) 0;
-        m = eqb (get_or log (i * 9 + 3) 0) 1;
-        p = eqb (get_or log (i * 9 + 4) 0) 1;
-        start = get_or log (i * 9 + 5) 0;
-        length = length;
-      }
-      (avp_of log i)
-  avp_of_by h length e = rw e (sym (avp_of_in h))
+  -- as the code reads it from the nine numbers of a position
+  module _ (numbers : List ℕ) (of : AreNumbersOf log i numbers) where
+    first : get_or numbers 0 0 ≡ get_or log (i * 9) 0
+    first = of.each 0 (omega arith) ∙ ap (λ (n : ℕ). get_or log n 0) (add-zero (i * 9))
 
-  pub depth_in : i < 256 → get_or log (i * 9) 0 ≡ (avp_of log i).depth
-  depth_in h = rw (avp_of_in h)
+    pub avp_told : ◌≡◌ {A = Avp}
+        record {
+          depth = get_or numbers 0 0;
+          vendor = get_or numbers 1 0;
+          code = get_or numbers 2 0;
+          m = eqb (get_or numbers 3 0) 1;
+          p = eqb (get_or numbers 4 0) 1;
+          start = get_or numbers 5 0;
+          length = get_or numbers 6 0 - get_or numbers 5 0;
+        }
+        (avp_of log i)
+    avp_told =
+        rw (
+          avp_of_in of.within,
+          first,
+          of.each 1 (omega arith),
+          of.each 2 (omega arith),
+          of.each 3 (omega arith),
+          of.each 4 (omega arith),
+          of.each 5 (omega arith),
+          of.each 6 (omega arith),
+        )
+        refl
 
-  -- the end of the data
-  pub data_end_out : 256 ≤ i → end_of (avp_of log i) ≡ 0
+    pub data_end_told : max (get_or numbers 5 0) (get_or numbers 6 0) ≡ end_of (avp_of log i)
+    data_end_told = rw (← avp_told) (omega arith)
+
+    pub depth_told : get_or numbers 0 0 ≡ (avp_of log i).depth
+    depth_told = rw (← avp_told) refl
+
+    pub entry_told : min (get_or numbers 7 0) 255 ≡ entry_at log i
+    unfolding entry_at
+    entry_told = rw (lt-ltb i 256 of.within, of.each 7 (omega arith)) refl
+
+    pub after_told : max (get_or numbers 8 0) (i + 1) ≡ after_at log i
+    unfolding after_at
+    after_told = rw (lt-ltb i 256 of.within, of.each 8 (omega arith)) (omega arith)
+
+  pub data_end_out : 256 ≤ i → 0 ≡ end_of (avp_of log i)
   data_end_out h = rw (avp_of_out h)
 
-  pub data_end_at_start : i < 256 → get_or log (i * 9 + 6) 0 < get_or log (i * 9 + 5) 0 → end_of (avp_of log i) ≡ get_or log (i * 9 + 5) 0
-  data_end_at_start h k = rw (avp_of_in h) (omega arith)
-
-  pub data_end_at_end : i < 256 → get_or log (i * 9 + 5) 0 ≤ get_or log (i * 9 + 6) 0 → end_of (avp_of log i) ≡ get_or log (i * 9 + 6) 0
-  data_end_at_end h k = rw (avp_of_in h) (omega arith)
+  pub depth_out : 256 ≤ i → 0 ≡ (avp_of log i).depth
+  depth_out h = rw (avp_of_out h)
 
   module _ (a : Avp) where
     pub put_avp_out : 256 ≤ i → put_avp log i a ≡ log
@@ -64,12 +85,12 @@ module _ (log : List ℕ) (i : ℕ) where
     unfolding put_avp
     put_avp_in h k = rw (lt-ltb i 256 h, lt-ltb (end_of a) (2 ^ 32) k)
 
-    -- as the code puts it: number by number, with M and P found first
-    pub put_avp_by : i < 256 → end_of a < 2 ^ 32 → (m : ℕ) → m ≡ bit a.m → (p : ℕ) → p ≡ bit a.p
-        → set (set (set (set (set (set (set log (i * 9) a.depth) (i * 9 + 1) a.vendor) (i * 9 + 2) a.code)
-        (i * 9 + 3) m) (i * 9 + 4) p) (i * 9 + 5) a.start) (i * 9 + 6) (end_of a)
+    -- as the code puts it: number by number, with M, P and the end found first
+    pub put_avp_by : (m : ℕ) → m ≡ bit a.m → (p : ℕ) → p ≡ bit a.p → (end : ℕ) → end ≡ end_of a → i < 256 → end < 2 ^ 32
+        → set (set (set (set (set (set (set log (i * 9 + 0) a.depth) (i * 9 + 1) a.vendor) (i * 9 + 2) a.code)
+        (i * 9 + 3) m) (i * 9 + 4) p) (i * 9 + 5) a.start) (i * 9 + 6) end
         ≡ put_avp log i a
-    put_avp_by h k m e p f = rw (e, f) (sym (put_avp_in h k))
+    put_avp_by m e p f end g h k = rw (add-zero (i * 9), e, f, g) (sym (put_avp_in h (rw g at k)))
 
   -- the entry, and the position after the last descendant
   pub entry_at_out : 256 ≤ i → entry_at log i ≡ 255
@@ -80,12 +101,6 @@ module _ (log : List ℕ) (i : ℕ) where
   unfolding entry_at
   entry_at_in h = rw (lt-ltb i 256 h)
 
-  pub entry_above : i < 256 → 255 < get_or log (i * 9 + 7) 0 → entry_at log i ≡ 255
-  entry_above h k = rw (entry_at_in h) (omega arith)
-
-  pub entry_within : i < 256 → get_or log (i * 9 + 7) 0 ≤ 255 → entry_at log i ≡ get_or log (i * 9 + 7) 0
-  entry_within h k = rw (entry_at_in h) (omega arith)
-
   pub after_at_out : 256 ≤ i → after_at log i ≡ 256
   unfolding after_at
   after_at_out h = rw (le-ltb i 256 h)
@@ -93,12 +108,6 @@ module _ (log : List ℕ) (i : ℕ) where
   pub after_at_in : i < 256 → after_at log i ≡ max (i + 1) (get_or log (i * 9 + 8) 0)
   unfolding after_at
   after_at_in h = rw (lt-ltb i 256 h)
-
-  pub after_next : i < 256 → get_or log (i * 9 + 8) 0 ≤ i → after_at log i ≡ i + 1
-  after_next h k = rw (after_at_in h) (omega arith)
-
-  pub after_told : i < 256 → i < get_or log (i * 9 + 8) 0 → after_at log i ≡ get_or log (i * 9 + 8) 0
-  after_told h k = rw (after_at_in h) (omega arith)
 
   pub after_behind : i < 256 → i < after_at log i
   after_behind h = rw (after_at_in h) (omega arith)
@@ -115,6 +124,11 @@ module _ (log : List ℕ) (i : ℕ) where
     pub put_family_in : i < 256 → after ≤ 256 → put_family log i entry after ≡ set (set log (i * 9 + 7) entry) (i * 9 + 8) after
     unfolding put_family
     put_family_in h k = rw (lt-ltb i 256 h, le-leb after 256 k)
+
+-- what is put into a log, as the code tests it
+pub ruleset put_avp_laws = (put_avp_out, put_avp_long, put_avp_by)
+
+pub ruleset put_family_laws = (put_family_out, put_family_far, put_family_in)
 
 -- ---- the AVPs one by one
 

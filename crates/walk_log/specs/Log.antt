@@ -1,7 +1,7 @@
 -- A log of 256 places of nine numbers: depth, vendor, code, M, P, the start and the end of the data, the number of the
 -- AVP's entry in the dictionary, and the position after its last descendant. The end stands in the place of the length
 -- since a group's list ends there, and so it fits its place whatever a log holds.
-use Rattle.std.specs.Prelude.{ℕ, zero, suc, ◌+◌, ◌-◌, ◌*◌, ◌^◌, min, max, List, [], ◌∷◌, Bool, true, false, cond, ◌&&◌, get_or, set, ltb, leb, eqb}
+use Rattle.std.specs.Prelude.{ℕ, zero, suc, ◌+◌, ◌-◌, ◌*◌, ◌^◌, ◌<◌, ◌≡◌, min, max, List, [], ◌∷◌, Bool, true, false, cond, ◌&&◌, get_or, set, ltb, leb, eqb}
 use Rattle.rules.specs.declared.Avp.{Avp}
 use Rattle.rules.specs.Walk.{most_avps}
 use Rattle.rules.specs.Avp.{end_of}
@@ -53,6 +53,11 @@ put_logged log i l = put_family (put_avp log i l.avp) i l.entry l.after
 abbrev pub put_all : List ℕ → ℕ → List Logged → List ℕ
 put_all log i [] = log
 put_all log i (l ∷ ls) = put_all (put_logged log i l) (i + 1) ls
+
+-- the nine numbers of a position
+pub record AreNumbersOf (log : List ℕ) (i : ℕ) (numbers : List ℕ) : Type 0 where
+  pub within : i < most_avps
+  pub each : (k : ℕ) → k < numbers_per_avp → get_or numbers k 0 ≡ get_or log (i * numbers_per_avp + k) 0
 
 -- the AVP of seven numbers from a place on
 abbrev pub avp_from : List ℕ → ℕ → Avp

@@ -1,15 +1,21 @@
 // The log that a walk is written into: nine numbers for each AVP in an array that the caller lends. The walk, the rows
-// and the exchange rules work on it, so that no record is copied from one AVP to the next.
+// and the exchange rules work on it, so that no record is copied from one AVP to the next. It is a lent array of
+// numbers, since a caller in C lends it.
 #![tactic(auto)]
 
-ghost use Rattle.std.specs.Prelude.{◌≡◌, ◌-◌, min, length};
+ghost use Rattle.std.specs.Prelude.{◌≡◌, ◌≤◌, min, length, MatchOption};
 ghost use Rattle.rules.specs.Avp.{end_of};
 ghost use Rattle.rules.specs.Walk.{most_avps};
-ghost use Rattle.walk_log.specs.Log.{log_numbers, bit, put_avp, put_family, avp_of, entry_at, after_at};
+ghost use Rattle.walk_log.specs.Log.{bit, log_numbers, put_avp, put_family, AreNumbersOf, avp_of, entry_at, after_at};
 
 use rules::{Avp, limits};
 
-// Where the numbers of an AVP stand behind its first, the depth; `END` is that of its data.
+// The numbers of a log.
+pub type Log = [u32; limits::LOG_NUMBERS];
+
+// Where the numbers of an AVP stand; `END` is that of its data.
+const DEPTH: usize = 0;
+
 const VENDOR: usize = 1;
 
 const CODE: usize = 2;
@@ -26,166 +32,138 @@ const ENTRY: usize = 7;
 
 const AFTER: usize = 8;
 
-// A flag as a number.
+// How many numbers a log has, as its type says too.
+pub fn size(log: &Log) -> usize
+    ensures { (result ≡ log_numbers) × (length log.now ≡ log_numbers) }
+{
+    log.len()
+}
+
+// A flag as a number. Public, so kept: what it promises is `bit`.
 pub fn bit_of(flag: bool) -> u32
     ensures { result ≡ bit flag }
 {
-    if flag {
-        return 1;
-    }
-    0
-}
-
-// The octets from a start to an end, none where the end comes first.
-fn length_of(start: u32, end: u32) -> u32
-    ensures { result ≡ end - start }
-{
-    if end < start {
-        return 0;
-    }
-    end - start
-}
-
-// How many numbers a slice holds.
-fn slice_size(numbers: &[u32]) -> usize
-    ensures { result ≡ length numbers.now }
-{
-    numbers.len()
-}
-
-// The numbers of a log. A proof takes from here that what a log holds is as long as its type says.
-pub fn size(log: &[u32; limits::LOG_NUMBERS]) -> usize
-    ensures { (result ≡ log_numbers) × (length log.now ≡ log_numbers) }
-{
-    slice_size(log)
+    u32::from(flag)
 }
 
 // A count above 256 is read as 256.
 pub fn used(count: usize) -> usize
     ensures { result ≡ min count most_avps }
 {
-    if limits::MOST_AVPS < count {
-        return limits::MOST_AVPS;
-    }
-    count
+    count.min(limits::MOST_AVPS)
 }
 
 // Keeps an AVP at a position; `put_family` keeps the rest of what stands there. A position from 256 on, or data whose
-// end does not fit four octets, leaves the log as it was.
-pub fn put(log: &mut [u32; limits::LOG_NUMBERS], position: usize, a: Avp)
+// end does not fit four octets, leaves the log as it was. It is stored number by number: as one part it was tried in
+// `numbers`, and slower. The end is kept in the place of the length, since a group's list ends there (`data_end`).
+#[tactic(auto, using(crate::proofs::Log::put_avp_laws))]
+pub fn put(log: &mut Log, position: usize, a: Avp)
     ensures { log.new ≡ put_avp log.old position a }
 {
     if limits::MOST_AVPS <= position {
         return;
     }
-    if 4294967295 - a.length < a.start {
+    let Some(end) = a.start.checked_add(a.length) else {
         return;
-    }
+    };
     let at = position * limits::LOGGED_NUMBERS;
-    log[at] = a.depth;
+    log[at + DEPTH] = a.depth;
     log[at + VENDOR] = a.vendor;
     log[at + CODE] = a.code;
     log[at + M] = bit_of(a.m);
     log[at + P] = bit_of(a.p);
     log[at + START] = a.start;
-    log[at + END] = a.start + a.length;
+    log[at + END] = end;
 }
 
 // Keeps of the AVP at a position the number of its entry, and the position after its last descendant. A position from
 // 256 on, or one after it above 256, leaves the log as it was.
-pub fn put_family(log: &mut [u32; limits::LOG_NUMBERS], position: usize, entry: u8, after: usize)
+#[tactic(auto, using(crate::proofs::Log::put_family_laws))]
+pub fn put_family(log: &mut Log, position: usize, entry: u8, after: usize)
     ensures { log.new ≡ put_family log.old position entry after }
 {
-    if limits::MOST_AVPS <= position {
-        return;
-    }
-    if limits::MOST_AVPS < after {
+    if limits::MOST_AVPS <= position || limits::MOST_AVPS < after {
         return;
     }
     let at = position * limits::LOGGED_NUMBERS;
-    log[at + ENTRY] = entry as u32;
+    log[at + ENTRY] = u32::from(entry);
     log[at + AFTER] = after as u32;
 }
 
-// The AVP at a position, the blank one from 256 on.
-pub fn get(log: &[u32; limits::LOG_NUMBERS], position: usize) -> Avp
-    ensures { result ≡ avp_of log.now position }
+// The nine numbers of the AVP at a position, none from 256 on.
+fn numbers_of(log: &Log, position: usize) -> Option<&[u32; limits::LOGGED_NUMBERS]>
+    ensures { MatchOption result (most_avps ≤ position) (λ numbers. AreNumbersOf log.now position numbers.now) }
 {
     if limits::MOST_AVPS <= position {
-        return avp::blank();
+        return None;
     }
     let at = position * limits::LOGGED_NUMBERS;
+    log[at..at + limits::LOGGED_NUMBERS].first_chunk()
+}
+
+// The AVP at a position, the blank one from 256 on.
+#[tactic(auto, using(crate::proofs::Log::avp_of_out, crate::proofs::Log::avp_told))]
+pub fn get(log: &Log, position: usize) -> Avp
+    ensures { result ≡ avp_of log.now position }
+{
+    let Some(numbers) = numbers_of(log, position) else {
+        return avp::blank();
+    };
     Avp {
-        depth: log[at],
-        vendor: log[at + VENDOR],
-        code: log[at + CODE],
-        m: log[at + M] == 1,
-        p: log[at + P] == 1,
-        start: log[at + START],
-        length: length_of(log[at + START], log[at + END]),
+        depth: numbers[DEPTH],
+        vendor: numbers[VENDOR],
+        code: numbers[CODE],
+        m: numbers[M] == 1,
+        p: numbers[P] == 1,
+        start: numbers[START],
+        length: numbers[END].saturating_sub(numbers[START]),
     }
 }
 
 // Where the data of the AVP at a position ends, 0 from 256 on.
-pub fn data_end(log: &[u32; limits::LOG_NUMBERS], position: usize) -> u32
+#[tactic(auto, using(crate::proofs::Log::data_end_out, crate::proofs::Log::data_end_told))]
+pub fn data_end(log: &Log, position: usize) -> u32
     ensures { result ≡ end_of (avp_of log.now position) }
 {
-    if limits::MOST_AVPS <= position {
+    let Some(numbers) = numbers_of(log, position) else {
         return 0;
-    }
-    let at = position * limits::LOGGED_NUMBERS;
-    let start = log[at + START];
-    let end = log[at + END];
-    if end < start {
-        return start;
-    }
-    end
+    };
+    numbers[START].max(numbers[END])
 }
 
 // The depth of the AVP at a position, 0 from 256 on.
-pub fn depth_at(log: &[u32; limits::LOG_NUMBERS], position: usize) -> u32
+#[tactic(auto, using(crate::proofs::Log::depth_out, crate::proofs::Log::depth_told))]
+pub fn depth_at(log: &Log, position: usize) -> u32
     ensures { result ≡ (avp_of log.now position).depth }
 {
-    if limits::MOST_AVPS <= position {
+    let Some(numbers) = numbers_of(log, position) else {
         return 0;
-    }
-    log[position * limits::LOGGED_NUMBERS]
+    };
+    numbers[DEPTH]
 }
 
-// What stands for the number of an entry from position 256 on, and where it is no octet; no entry has it.
+// What stands for the number of an entry from position 256 on, and where it is no octet; no entry has it. No Option:
+// `entry_at` (specs/Log) says it of any log.
 const NO_NUMBER: u8 = 255;
 
 // The number of the entry of the AVP at a position.
-pub fn entry_at(log: &[u32; limits::LOG_NUMBERS], position: usize) -> u8
+#[tactic(auto, using(crate::proofs::Log::entry_at_out, crate::proofs::Log::entry_told))]
+pub fn entry_at(log: &Log, position: usize) -> u8
     ensures { result ≡ entry_at log.now position }
 {
-    if limits::MOST_AVPS <= position {
+    let Some(numbers) = numbers_of(log, position) else {
         return NO_NUMBER;
-    }
-    let number = log[position * limits::LOGGED_NUMBERS + ENTRY];
-    if (NO_NUMBER as u32) < number {
-        return NO_NUMBER;
-    }
-    number as u8
-}
-
-// A number of four octets as a position.
-fn as_position(number: u32) -> usize
-    ensures { result ≡ number }
-{
-    number as usize
+    };
+    numbers[ENTRY].min(u32::from(NO_NUMBER)) as u8
 }
 
 // The position after the last descendant of the AVP at a position, at least the next one; 256 from 256 on.
-pub fn after_at(log: &[u32; limits::LOG_NUMBERS], position: usize) -> usize
+#[tactic(auto, using(crate::proofs::Log::after_at_out, crate::proofs::Log::after_told))]
+pub fn after_at(log: &Log, position: usize) -> usize
     ensures { result ≡ after_at log.now position }
 {
-    if limits::MOST_AVPS <= position {
+    let Some(numbers) = numbers_of(log, position) else {
         return limits::MOST_AVPS;
-    }
-    let after = as_position(log[position * limits::LOGGED_NUMBERS + AFTER]);
-    if after <= position {
-        return position + 1;
-    }
-    after
+    };
+    (numbers[AFTER] as usize).max(position + 1)
 }

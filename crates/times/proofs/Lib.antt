@@ -1,2 +1,0 @@
--- A number of seconds in 64 bits.
-pub mod Widths
