@@ -5,20 +5,20 @@ use mathlib.Core.List.{List, [], ◌∷◌, ◌++◌}
 use mathlib.Core.Bool.{Bool, true, false, cond, ◌&&◌}
 use mathlib.Core.Logic.{⊎_elim}
 use Prim.Native.Nat.{ℕ, zero, suc, ◌+◌, ◌-◌, ◌≤◌, ◌<◌}
-use native.Mathlib.Nat.{add-zero, zero-add, sub-zero, eq-or-lt_of_le}
+use native.Mathlib.Nat.{add-zero, sub-zero, eq-or-lt_of_le}
 use native.Mathlib.Omega.{arith}
 use lib.Dec.{T, eqb, leb, eqb→eq}
 use lib.ListN.{length, get_or}
 use borrow.Author.Tests.{leb-true, leb-false, le-leb, eqb-true, eqb-false, ne_eqb}
-use Rattle.rules.specs.declared.Definition.{Definition}
-use Rattle.rules.specs.declared.Definition.TheVariants.{Known, Unknown}
 use Rattle.rules.specs.declared.Form.{Form}
+use Rattle.rules.specs.declared.Entry.{Entry}
+use Rattle.rules.specs.Dictionary.{find, dictionary, Definition, Known, Unknown}
+use Rattle.std.proofs.lemmas.List.{get_or_past, get_or_default}
 use Rattle.rules.specs.Header.{vendor_3gpp}
-use Rattle.rules.specs.Dictionary.{Entry, find, dictionary}
 use Rattle.rules.proofs.Names.{both_hold}
 use Rattle.dictionary.specs.Entries.{entry_of, least_nt_code, nt_codes, definition_at}
 use Rattle.dictionary.specs.Table.{plain_codes, no_entry, plain_entry, IsTable, IsNtTable, entry_by, cons_defined, plain_from, with_vendor, dictionary_by}
-use Rattle.dictionary.proofs.Entries.{found_is, few_entries, none_of, none_found, cond_same, definition_behind}
+use Rattle.dictionary.proofs.Entries.{found_is, few_entries, none_of, none_found, definition_behind}
 
 -- ---- the rule
 
@@ -27,78 +27,92 @@ abbrev every : (ℕ → ℕ → Bool) → ℕ → List ℕ → Bool
 every test i [] = true
 every test i (x ∷ xs) = test i x && every test (suc i) xs
 
-every_from : (test : ℕ → ℕ → Bool) (xs : List ℕ) (i : ℕ) → T (every test i xs) → (k : ℕ) → k < length xs
-    → T (test (i + k) (get_or xs k 0))
-every_from test [] i t k h = absurd (omega arith)
-every_from test (x ∷ xs) i t zero h = rw (add-zero i) (both_hold (test i x) (every test (suc i) xs) t).0
-every_from test (x ∷ xs) i t (suc k) h =
+every_from : (test : ℕ → ℕ → Bool) (xs : List ℕ) (i : ℕ) → T (every test i xs) → (k d : ℕ) → k < length xs
+    → T (test (i + k) (get_or xs k d))
+every_from test [] i t k d h = absurd (omega arith)
+every_from test (x ∷ xs) i t zero d h = rw (add-zero i) (both_hold (test i x) (every test (suc i) xs) t).0
+every_from test (x ∷ xs) i t (suc k) d h =
     let e : suc i + k ≡ i + suc k = omega arith in
-    rw (← e) (every_from test xs (suc i) (both_hold (test i x) (every test (suc i) xs) t).1 k (omega arith))
+    rw (← e) (every_from test xs (suc i) (both_hold (test i x) (every test (suc i) xs) t).1 k d (omega arith))
 
--- a table of the codes of a vendor from `least` on, and before `last`
-module _ (vendor least last : ℕ) where
+-- a table of the codes of a vendor from `least` on
+module _ (vendor least : ℕ) (table : List ℕ) where
   -- the number at a code's place is what the search finds
   abbrev is_found : ℕ → ℕ → Bool
   is_found place n = eqb n (entry_of dictionary vendor (least + place))
 
   -- an entry of the vendor that has no place in the table
   abbrev is_beyond : Entry → Bool
-  is_beyond e = leb last e.code && eqb vendor e.vendor
+  is_beyond e = leb (least + length table) e.code && eqb vendor e.vendor
 
   -- the test of a whole table
-  abbrev pub fits : List ℕ → Bool
-  fits table = eqb (least + length table) last && (every is_found 0 table && none_of is_beyond dictionary)
+  abbrev pub fits : Bool
+  fits = every is_found 0 table && none_of is_beyond dictionary
 
-  not_wanted : (code : ℕ) → last ≤ code → (e : Entry) (b : Bool) → eqb code e.code ≡ b → is_beyond e ≡ false
+  not_wanted : (code : ℕ) → least + length table ≤ code → (e : Entry) (b : Bool) → eqb code e.code ≡ b → is_beyond e ≡ false
       → (b && eqb vendor e.vendor) ≡ false
   not_wanted code far e false h f = refl
   not_wanted code far e true h f =
       let same = eqb-true code e.code h in
-      let there : leb last e.code ≡ true = le-leb last e.code (omega arith) in
+      let there : leb (least + length table) e.code ≡ true = le-leb (least + length table) e.code (omega arith) in
       rw there at f
 
-  -- behind the last place the search finds nothing
-  pub beyond : T (none_of is_beyond dictionary) → (code : ℕ) → last ≤ code → entry_of dictionary vendor code ≡ no_entry
-  beyond t code far =
-      none_found is_beyond (λ e. eqb code e.code && eqb vendor e.vendor)
-      (λ e f. not_wanted code far e (eqb code e.code) refl f) dictionary t
+  -- at each place it finds what stands there, and behind the last nothing
+  finds_at : T fits → (code : ℕ) (far : Bool) → leb (least + length table) code ≡ far → least ≤ code
+      → get_or table (code - least) no_entry ≡ entry_of dictionary vendor code
+  finds_at t code true h l =
+      let far = leb-true (least + length table) code h in
+      get_or_past table (code - least) no_entry (omega arith)
+      ∙ sym (none_found is_beyond (λ e. eqb code e.code && eqb vendor e.vendor)
+      (λ e. not_wanted code far e (eqb code e.code) refl) dictionary (both_hold (every is_found 0 table) _ t).1)
+  finds_at t code false h l =
+      let near = leb-false (least + length table) code h in
+      let place : least + (0 + (code - least)) ≡ code = omega arith in
+      let here = every_from is_found table 0 (both_hold _ (none_of is_beyond dictionary) t).0 (code - least) no_entry (omega arith) in
+      eqb→eq _ _ (rw place at here)
 
-  -- at each place it finds what stands there
-  module _ (table : List ℕ) (t : T (fits table)) where
-    tests : T (eqb (least + length table) last) × T (every is_found 0 table) × T (none_of is_beyond dictionary)
-    tests =
-        let a = both_hold (eqb (least + length table) last) (every is_found 0 table && none_of is_beyond dictionary) t in
-        let b = both_hold (every is_found 0 table) (none_of is_beyond dictionary) a.1 in
-        (a.0, b.0, b.1)
-
-    size : least + length table ≡ last
-    size = eqb→eq (least + length table) last tests.0
-
-    at_place : (code : ℕ) → least ≤ code → code < last
-        → get_or table (code - least) 0 ≡ entry_of dictionary vendor code
-    at_place code from to =
-        let place : least + (0 + (code - least)) ≡ code = omega arith in
-        eqb→eq _ _ (rw place at (every_from is_found table 0 tests.1 (code - least) (omega (arith, size))))
+  pub table_finds_from : T fits → (code : ℕ) → least ≤ code → get_or table (code - least) no_entry ≡ entry_of dictionary vendor code
+  table_finds_from t code = finds_at t code (leb (least + length table) code) refl
 
 -- the rule of the table of plain codes
-plain_at_lem : (table : List ℕ) → T (fits 0 0 plain_codes table) → (code : ℕ) (far : Bool) → leb plain_codes code ≡ far
-    → plain_entry table code ≡ entry_of dictionary 0 code
+pub plain_entry_is : (table : List ℕ) → length table ≡ plain_codes → (code : ℕ) → get_or table code no_entry ≡ plain_entry table code
 unfolding plain_entry
-plain_at_lem table t code true h = rw h (sym (beyond 0 0 plain_codes (tests 0 0 plain_codes table t).2 code (leb-true plain_codes code h)))
-plain_at_lem table t code false h =
-    let here = at_place 0 0 plain_codes table t code (omega arith) (leb-false plain_codes code h) in
-    rw h (rw (sub-zero code) at here)
+plain_entry_is table size code = by_place (leb plain_codes code) refl
+  where
+    by_place : (far : Bool) → leb plain_codes code ≡ far → get_or table code no_entry ≡ cond far no_entry (get_or table code 0)
+    by_place true h = let far = leb-true plain_codes code h in get_or_past table code no_entry (omega (arith, size))
+    by_place false h = let near = leb-false plain_codes code h in get_or_default table code no_entry 0 (omega (arith, size))
 
-pub table_rule : (table : List ℕ) → T (fits 0 0 plain_codes table) → IsTable table
+-- the test of it
+abbrev pub is_plain : List ℕ → Bool
+is_plain table = eqb (length table) plain_codes && fits 0 0 table
+
+pub table_rule : (table : List ℕ) → T (is_plain table) → IsTable table
 table_rule table t =
+    let both = both_hold (eqb (length table) plain_codes) (fits 0 0 table) t in
+    let size = eqb→eq (length table) plain_codes both.0 in
     record {
-      size = rw (zero-add (length table)) at (size 0 0 plain_codes table t);
-      finds = λ code. plain_at_lem table t code (leb plain_codes code) refl;
+      size = size;
+      finds = λ code.
+          sym (plain_entry_is table size code) ∙ ap (λ (k : ℕ). get_or table k no_entry) (sym (sub-zero code))
+          ∙ table_finds_from 0 0 table both.1 code (omega arith);
     }
 
 -- that of the table of 3GPP's codes for Nt alone
-pub nt_rule : (table : List ℕ) → T (fits vendor_3gpp least_nt_code (least_nt_code + nt_codes) table) → IsNtTable table
-nt_rule table t = record { finds = at_place vendor_3gpp least_nt_code (least_nt_code + nt_codes) table t }
+-- the test of it
+abbrev pub is_of_nt : List ℕ → Bool
+is_of_nt table = eqb (length table) nt_codes && fits vendor_3gpp least_nt_code table
+
+pub nt_rule : (table : List ℕ) → T (is_of_nt table) → IsNtTable table
+nt_rule table t =
+    let both = both_hold (eqb (length table) nt_codes) (fits vendor_3gpp least_nt_code table) t in
+    let size = eqb→eq (length table) nt_codes both.0 in
+    record {
+      finds = λ code from to.
+          get_or_default table (code - least_nt_code) 0 no_entry (omega (arith, size, from, to))
+          ∙ table_finds_from vendor_3gpp least_nt_code table both.1 code from;
+      finds_from = table_finds_from vendor_3gpp least_nt_code table both.1;
+    }
 
 found_at : (table : List ℕ) → IsTable table → (vendor code : ℕ) (plain : Bool) → eqb vendor 0 ≡ plain
     → entry_by table vendor code ≡ entry_of dictionary vendor code
@@ -111,6 +125,10 @@ pub table_finds : (table : List ℕ) → IsTable table → (vendor code : ℕ) �
 table_finds table is vendor code = found_at table is vendor code (eqb vendor 0) refl
 
 -- ---- the dictionary that a table stands for
+
+cond_same : {A : Type 0} (b : Bool) (x : A) → x ≡ cond b x x
+cond_same true x = refl
+cond_same false x = refl
 
 abbrev first_known : Definition → Definition → Definition
 first_known (Known m form) d = Known m form

@@ -1,9 +1,8 @@
 -- The entries of a dictionary by their numbers (request [6]: what a table of numbers leads to). The number of an entry
 -- is its position in the dictionary, from 0.
-use Rattle.std.specs.Prelude.{ℕ, zero, suc, ◌+◌, ◌*◌, List, [], ◌∷◌, Bool, cond, ◌&&◌, eqb}
-use Rattle.rules.specs.declared.Definition.{Definition}
-use Rattle.rules.specs.declared.Definition.TheVariants.{Known, Unknown}
-use Rattle.rules.specs.Dictionary.{Entry, requires_m, is_group, fixed_width}
+use Rattle.std.specs.Prelude.{ℕ, zero, suc, List, [], ◌∷◌, Bool, cond, ◌&&◌, eqb}
+use Rattle.rules.specs.declared.Entry.{Entry}
+use Rattle.rules.specs.Dictionary.{Definition, Known, Unknown}
 
 -- the number of the first entry that passes a test; where none does, the number behind the last
 unfoldable pub number_where : (Entry → Bool) → List Entry → ℕ
@@ -40,7 +39,3 @@ vendor_of = said_at 0 (λ e. e.vendor)
 -- its code, 0 where there is none
 unfoldable pub code_of : List Entry → ℕ → ℕ
 code_of = said_at 0 (λ e. e.code)
-
--- a definition as one number: a digit for M, one for a group, and the width
-unfoldable pub facts_of : Definition → ℕ
-facts_of d = cond (requires_m d) 1 0 + 2 * cond (is_group d) 1 0 + 4 * fixed_width d

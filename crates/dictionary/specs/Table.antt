@@ -1,11 +1,10 @@
 -- Request [6]: a table of plain codes, AVP codes without vendor from 0 to 650, which leads each to the number of its
 -- entry. What a table says is defined for whatever numbers it holds; `IsTable` is the rule of the right one, and
--- `IsNtTable` that of the table of 3GPP's codes for Nt alone, which is not lent.
+-- `IsNtTable` that of the table of 3GPP's codes for Nt alone, which no caller lends.
 use Rattle.std.specs.Prelude.{◌≡◌, ℕ, zero, suc, ◌+◌, ◌-◌, ◌≤◌, ◌<◌, List, [], ◌∷◌, ◌++◌, cond, eqb, leb, length, get_or}
-use Rattle.rules.specs.declared.Definition.{Definition}
-use Rattle.rules.specs.declared.Definition.TheVariants.{Known, Unknown}
 use Rattle.rules.specs.Header.{vendor_3gpp}
-use Rattle.rules.specs.Dictionary.{Entry, dictionary}
+use Rattle.rules.specs.declared.Entry.{Entry}
+use Rattle.rules.specs.Dictionary.{dictionary, Definition, Known, Unknown}
 use Rattle.dictionary.specs.Entries.{entry_of, least_nt_code, nt_codes, definition_at}
 
 -- the codes that a table has places for
@@ -29,10 +28,12 @@ pub record IsTable (table : List ℕ) : Type 0 where
 unfoldable pub entry_by : List ℕ → ℕ → ℕ → ℕ
 entry_by table vendor code = cond (eqb vendor 0) (plain_entry table code) (entry_of dictionary vendor code)
 
--- the rule of the table of 3GPP's codes for Nt alone
+-- the rule of the table of 3GPP's codes for Nt alone; behind its last place the search finds nothing
 pub record IsNtTable (table : List ℕ) : Type 0 where
   pub finds : (code : ℕ) → least_nt_code ≤ code → code < least_nt_code + nt_codes
       → get_or table (code - least_nt_code) 0 ≡ entry_of dictionary vendor_3gpp code
+  pub finds_from : (code : ℕ) → least_nt_code ≤ code
+      → get_or table (code - least_nt_code) no_entry ≡ entry_of dictionary vendor_3gpp code
 
 -- ---- the dictionary that a table stands for; the right one stands for document 01's
 

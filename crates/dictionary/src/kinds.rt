@@ -1,23 +1,19 @@
 // The AVP kinds of document 01's dictionary, in the order of its entries: Vendor-Id, AVP code and, where it is fixed,
-// the width of the data, as constants of each kind; the number of its entry, which is its position; and the facts of
-// the entry in one number. The code names an AVP by these alone; in
-// `lists::admission_table` a place has its kind as a comment.
+// the width of the data; the number of its entry, which is its position; and whether M must be set and the form of the
+// data, from which the table of entries is written.
 use rules::limits::{NO_VENDOR, VENDOR_3GPP};
+use rules::{Form, Grammar};
 
-// The number of a name that has no entry: behind the last one.
+// The number of a name that has no entry: behind the last one. No Option: `entry_by` promises what any lent table leads
+// to, a log keeps the number of each AVP, and both tables of rows have a place for it.
 pub const NO_ENTRY: u8 = 48;
 
 // How many entries there are.
 pub const ENTRIES: usize = NO_ENTRY as usize;
 
-// The facts of an entry as digits of one number: whether M must be set, whether the data is a group, and its width.
-const M_FREE: u8 = 0;
-
-pub(crate) const M_REQUIRED: u8 = 1;
-
-pub(crate) const GROUP: u8 = 2;
-
-pub(crate) const ONE_OCTET: u8 = 4;
+// The code names an AVP by a kind's constants alone; in `lists::admission_table` a place has its kind as a comment. No
+// trait has them, which would be no plainer: the table may not name a constant that a trait provides, and a clause
+// reads one only by a ghost member beside it.
 
 // RFC 6733: four octets
 
@@ -33,7 +29,9 @@ impl AuthApplicationId {
 
     pub const ENTRY: u8 = 0;
 
-    pub(crate) const FACTS: u8 = M_REQUIRED + ONE_OCTET * AuthApplicationId::WIDTH as u8;
+    pub(crate) const M: bool = true;
+
+    pub(crate) const FORM: Form = Form::Fixed(AuthApplicationId::WIDTH);
 }
 
 #[derive(Drop)]
@@ -48,7 +46,9 @@ impl AcctApplicationId {
 
     pub const ENTRY: u8 = 1;
 
-    pub(crate) const FACTS: u8 = M_REQUIRED + ONE_OCTET * AcctApplicationId::WIDTH as u8;
+    pub(crate) const M: bool = true;
+
+    pub(crate) const FORM: Form = Form::Fixed(AcctApplicationId::WIDTH);
 }
 
 #[derive(Drop)]
@@ -63,7 +63,9 @@ impl RedirectHostUsage {
 
     pub const ENTRY: u8 = 2;
 
-    pub(crate) const FACTS: u8 = M_REQUIRED + ONE_OCTET * RedirectHostUsage::WIDTH as u8;
+    pub(crate) const M: bool = true;
+
+    pub(crate) const FORM: Form = Form::Fixed(RedirectHostUsage::WIDTH);
 }
 
 #[derive(Drop)]
@@ -78,7 +80,9 @@ impl RedirectMaxCacheTime {
 
     pub const ENTRY: u8 = 3;
 
-    pub(crate) const FACTS: u8 = M_REQUIRED + ONE_OCTET * RedirectMaxCacheTime::WIDTH as u8;
+    pub(crate) const M: bool = true;
+
+    pub(crate) const FORM: Form = Form::Fixed(RedirectMaxCacheTime::WIDTH);
 }
 
 #[derive(Drop)]
@@ -93,7 +97,9 @@ impl VendorId {
 
     pub const ENTRY: u8 = 4;
 
-    pub(crate) const FACTS: u8 = M_REQUIRED + ONE_OCTET * VendorId::WIDTH as u8;
+    pub(crate) const M: bool = true;
+
+    pub(crate) const FORM: Form = Form::Fixed(VendorId::WIDTH);
 }
 
 #[derive(Drop)]
@@ -108,7 +114,9 @@ impl ResultCode {
 
     pub const ENTRY: u8 = 5;
 
-    pub(crate) const FACTS: u8 = M_REQUIRED + ONE_OCTET * ResultCode::WIDTH as u8;
+    pub(crate) const M: bool = true;
+
+    pub(crate) const FORM: Form = Form::Fixed(ResultCode::WIDTH);
 }
 
 #[derive(Drop)]
@@ -123,7 +131,9 @@ impl AuthSessionState {
 
     pub const ENTRY: u8 = 6;
 
-    pub(crate) const FACTS: u8 = M_REQUIRED + ONE_OCTET * AuthSessionState::WIDTH as u8;
+    pub(crate) const M: bool = true;
+
+    pub(crate) const FORM: Form = Form::Fixed(AuthSessionState::WIDTH);
 }
 
 #[derive(Drop)]
@@ -138,7 +148,9 @@ impl OriginStateId {
 
     pub const ENTRY: u8 = 7;
 
-    pub(crate) const FACTS: u8 = M_REQUIRED + ONE_OCTET * OriginStateId::WIDTH as u8;
+    pub(crate) const M: bool = true;
+
+    pub(crate) const FORM: Form = Form::Fixed(OriginStateId::WIDTH);
 }
 
 #[derive(Drop)]
@@ -153,7 +165,9 @@ impl ExperimentalResultCode {
 
     pub const ENTRY: u8 = 8;
 
-    pub(crate) const FACTS: u8 = M_REQUIRED + ONE_OCTET * ExperimentalResultCode::WIDTH as u8;
+    pub(crate) const M: bool = true;
+
+    pub(crate) const FORM: Form = Form::Fixed(ExperimentalResultCode::WIDTH);
 }
 
 // RFC 6733: any length
@@ -168,7 +182,9 @@ impl SessionId {
 
     pub const ENTRY: u8 = 9;
 
-    pub(crate) const FACTS: u8 = M_REQUIRED;
+    pub(crate) const M: bool = true;
+
+    pub(crate) const FORM: Form = Form::Any;
 }
 
 #[derive(Drop)]
@@ -181,7 +197,9 @@ impl OriginHost {
 
     pub const ENTRY: u8 = 10;
 
-    pub(crate) const FACTS: u8 = M_REQUIRED;
+    pub(crate) const M: bool = true;
+
+    pub(crate) const FORM: Form = Form::Any;
 }
 
 #[derive(Drop)]
@@ -194,7 +212,9 @@ impl OriginRealm {
 
     pub const ENTRY: u8 = 11;
 
-    pub(crate) const FACTS: u8 = M_REQUIRED;
+    pub(crate) const M: bool = true;
+
+    pub(crate) const FORM: Form = Form::Any;
 }
 
 #[derive(Drop)]
@@ -207,7 +227,9 @@ impl DestinationHost {
 
     pub const ENTRY: u8 = 12;
 
-    pub(crate) const FACTS: u8 = M_REQUIRED;
+    pub(crate) const M: bool = true;
+
+    pub(crate) const FORM: Form = Form::Any;
 }
 
 #[derive(Drop)]
@@ -220,7 +242,9 @@ impl DestinationRealm {
 
     pub const ENTRY: u8 = 13;
 
-    pub(crate) const FACTS: u8 = M_REQUIRED;
+    pub(crate) const M: bool = true;
+
+    pub(crate) const FORM: Form = Form::Any;
 }
 
 #[derive(Drop)]
@@ -233,7 +257,9 @@ impl RedirectHost {
 
     pub const ENTRY: u8 = 14;
 
-    pub(crate) const FACTS: u8 = M_REQUIRED;
+    pub(crate) const M: bool = true;
+
+    pub(crate) const FORM: Form = Form::Any;
 }
 
 #[derive(Drop)]
@@ -246,7 +272,9 @@ impl ProxyHost {
 
     pub const ENTRY: u8 = 15;
 
-    pub(crate) const FACTS: u8 = M_REQUIRED;
+    pub(crate) const M: bool = true;
+
+    pub(crate) const FORM: Form = Form::Any;
 }
 
 #[derive(Drop)]
@@ -259,7 +287,9 @@ impl ProxyState {
 
     pub const ENTRY: u8 = 16;
 
-    pub(crate) const FACTS: u8 = M_REQUIRED;
+    pub(crate) const M: bool = true;
+
+    pub(crate) const FORM: Form = Form::Any;
 }
 
 #[derive(Drop)]
@@ -272,7 +302,9 @@ impl RouteRecord {
 
     pub const ENTRY: u8 = 17;
 
-    pub(crate) const FACTS: u8 = M_REQUIRED;
+    pub(crate) const M: bool = true;
+
+    pub(crate) const FORM: Form = Form::Any;
 }
 
 #[derive(Drop)]
@@ -285,7 +317,9 @@ impl FailedAvp {
 
     pub const ENTRY: u8 = 18;
 
-    pub(crate) const FACTS: u8 = M_REQUIRED;
+    pub(crate) const M: bool = true;
+
+    pub(crate) const FORM: Form = Form::Any;
 }
 
 // RFC 6733: any length, M free
@@ -300,7 +334,9 @@ impl ErrorMessage {
 
     pub const ENTRY: u8 = 19;
 
-    pub(crate) const FACTS: u8 = M_FREE;
+    pub(crate) const M: bool = false;
+
+    pub(crate) const FORM: Form = Form::Any;
 }
 
 #[derive(Drop)]
@@ -313,7 +349,9 @@ impl ErrorReportingHost {
 
     pub const ENTRY: u8 = 20;
 
-    pub(crate) const FACTS: u8 = M_FREE;
+    pub(crate) const M: bool = false;
+
+    pub(crate) const FORM: Form = Form::Any;
 }
 
 // RFC 6733: groups
@@ -328,7 +366,9 @@ impl VendorSpecificApplicationId {
 
     pub const ENTRY: u8 = 21;
 
-    pub(crate) const FACTS: u8 = M_REQUIRED + GROUP;
+    pub(crate) const M: bool = true;
+
+    pub(crate) const FORM: Form = Form::Group(Grammar::VendorSpecificApplicationId);
 }
 
 #[derive(Drop)]
@@ -341,7 +381,9 @@ impl ExperimentalResult {
 
     pub const ENTRY: u8 = 22;
 
-    pub(crate) const FACTS: u8 = M_REQUIRED + GROUP;
+    pub(crate) const M: bool = true;
+
+    pub(crate) const FORM: Form = Form::Group(Grammar::ExperimentalResult);
 }
 
 #[derive(Drop)]
@@ -354,7 +396,9 @@ impl ProxyInfo {
 
     pub const ENTRY: u8 = 23;
 
-    pub(crate) const FACTS: u8 = M_REQUIRED + GROUP;
+    pub(crate) const M: bool = true;
+
+    pub(crate) const FORM: Form = Form::Group(Grammar::ProxyInfo);
 }
 
 // RFC 4006: four octets
@@ -371,7 +415,9 @@ impl RatingGroup {
 
     pub const ENTRY: u8 = 24;
 
-    pub(crate) const FACTS: u8 = M_REQUIRED + ONE_OCTET * RatingGroup::WIDTH as u8;
+    pub(crate) const M: bool = true;
+
+    pub(crate) const FORM: Form = Form::Fixed(RatingGroup::WIDTH);
 }
 
 // RFC 4006: eight octets
@@ -388,7 +434,9 @@ impl CcInputOctets {
 
     pub const ENTRY: u8 = 25;
 
-    pub(crate) const FACTS: u8 = M_REQUIRED + ONE_OCTET * CcInputOctets::WIDTH as u8;
+    pub(crate) const M: bool = true;
+
+    pub(crate) const FORM: Form = Form::Fixed(CcInputOctets::WIDTH);
 }
 
 #[derive(Drop)]
@@ -403,7 +451,9 @@ impl CcOutputOctets {
 
     pub const ENTRY: u8 = 26;
 
-    pub(crate) const FACTS: u8 = M_REQUIRED + ONE_OCTET * CcOutputOctets::WIDTH as u8;
+    pub(crate) const M: bool = true;
+
+    pub(crate) const FORM: Form = Form::Fixed(CcOutputOctets::WIDTH);
 }
 
 #[derive(Drop)]
@@ -418,7 +468,9 @@ impl CcTotalOctets {
 
     pub const ENTRY: u8 = 27;
 
-    pub(crate) const FACTS: u8 = M_REQUIRED + ONE_OCTET * CcTotalOctets::WIDTH as u8;
+    pub(crate) const M: bool = true;
+
+    pub(crate) const FORM: Form = Form::Fixed(CcTotalOctets::WIDTH);
 }
 
 // No vendor, M free: four octets
@@ -435,7 +487,9 @@ impl Drmp {
 
     pub const ENTRY: u8 = 28;
 
-    pub(crate) const FACTS: u8 = M_FREE + ONE_OCTET * Drmp::WIDTH as u8;
+    pub(crate) const M: bool = false;
+
+    pub(crate) const FORM: Form = Form::Fixed(Drmp::WIDTH);
 }
 
 // No vendor, M free: any length
@@ -450,7 +504,9 @@ impl OcSupportedFeatures {
 
     pub const ENTRY: u8 = 29;
 
-    pub(crate) const FACTS: u8 = M_FREE;
+    pub(crate) const M: bool = false;
+
+    pub(crate) const FORM: Form = Form::Any;
 }
 
 #[derive(Drop)]
@@ -463,7 +519,9 @@ impl OcOlr {
 
     pub const ENTRY: u8 = 30;
 
-    pub(crate) const FACTS: u8 = M_FREE;
+    pub(crate) const M: bool = false;
+
+    pub(crate) const FORM: Form = Form::Any;
 }
 
 #[derive(Drop)]
@@ -476,7 +534,9 @@ impl Load {
 
     pub const ENTRY: u8 = 31;
 
-    pub(crate) const FACTS: u8 = M_FREE;
+    pub(crate) const M: bool = false;
+
+    pub(crate) const FORM: Form = Form::Any;
 }
 
 // 3GPP, M free: four octets
@@ -493,7 +553,9 @@ impl FeatureListId {
 
     pub const ENTRY: u8 = 32;
 
-    pub(crate) const FACTS: u8 = M_FREE + ONE_OCTET * FeatureListId::WIDTH as u8;
+    pub(crate) const M: bool = false;
+
+    pub(crate) const FORM: Form = Form::Fixed(FeatureListId::WIDTH);
 }
 
 #[derive(Drop)]
@@ -508,7 +570,9 @@ impl FeatureList {
 
     pub const ENTRY: u8 = 33;
 
-    pub(crate) const FACTS: u8 = M_FREE + ONE_OCTET * FeatureList::WIDTH as u8;
+    pub(crate) const M: bool = false;
+
+    pub(crate) const FORM: Form = Form::Fixed(FeatureList::WIDTH);
 }
 
 // 3GPP, M free: any length
@@ -523,7 +587,9 @@ impl ApplicationServiceProviderIdentity {
 
     pub const ENTRY: u8 = 34;
 
-    pub(crate) const FACTS: u8 = M_FREE;
+    pub(crate) const M: bool = false;
+
+    pub(crate) const FORM: Form = Form::Any;
 }
 
 #[derive(Drop)]
@@ -536,7 +602,9 @@ impl PcrfAddress {
 
     pub const ENTRY: u8 = 35;
 
-    pub(crate) const FACTS: u8 = M_FREE;
+    pub(crate) const M: bool = false;
+
+    pub(crate) const FORM: Form = Form::Any;
 }
 
 // 3GPP, M free: a group
@@ -551,7 +619,9 @@ impl SupportedFeatures {
 
     pub const ENTRY: u8 = 36;
 
-    pub(crate) const FACTS: u8 = M_FREE + GROUP;
+    pub(crate) const M: bool = false;
+
+    pub(crate) const FORM: Form = Form::Group(Grammar::SupportedFeatures);
 }
 
 // 3GPP: four octets
@@ -568,7 +638,9 @@ impl MaxRequestedBandwidthDl {
 
     pub const ENTRY: u8 = 37;
 
-    pub(crate) const FACTS: u8 = M_REQUIRED + ONE_OCTET * MaxRequestedBandwidthDl::WIDTH as u8;
+    pub(crate) const M: bool = true;
+
+    pub(crate) const FORM: Form = Form::Fixed(MaxRequestedBandwidthDl::WIDTH);
 }
 
 #[derive(Drop)]
@@ -583,7 +655,9 @@ impl MaxRequestedBandwidthUl {
 
     pub const ENTRY: u8 = 38;
 
-    pub(crate) const FACTS: u8 = M_REQUIRED + ONE_OCTET * MaxRequestedBandwidthUl::WIDTH as u8;
+    pub(crate) const M: bool = true;
+
+    pub(crate) const FORM: Form = Form::Fixed(MaxRequestedBandwidthUl::WIDTH);
 }
 
 #[derive(Drop)]
@@ -598,7 +672,9 @@ impl TransferRequestType {
 
     pub const ENTRY: u8 = 39;
 
-    pub(crate) const FACTS: u8 = M_REQUIRED + ONE_OCTET * TransferRequestType::WIDTH as u8;
+    pub(crate) const M: bool = true;
+
+    pub(crate) const FORM: Form = Form::Fixed(TransferRequestType::WIDTH);
 }
 
 #[derive(Drop)]
@@ -613,7 +689,9 @@ impl TransferEndTime {
 
     pub const ENTRY: u8 = 40;
 
-    pub(crate) const FACTS: u8 = M_REQUIRED + ONE_OCTET * TransferEndTime::WIDTH as u8;
+    pub(crate) const M: bool = true;
+
+    pub(crate) const FORM: Form = Form::Fixed(TransferEndTime::WIDTH);
 }
 
 #[derive(Drop)]
@@ -628,7 +706,9 @@ impl TransferStartTime {
 
     pub const ENTRY: u8 = 41;
 
-    pub(crate) const FACTS: u8 = M_REQUIRED + ONE_OCTET * TransferStartTime::WIDTH as u8;
+    pub(crate) const M: bool = true;
+
+    pub(crate) const FORM: Form = Form::Fixed(TransferStartTime::WIDTH);
 }
 
 #[derive(Drop)]
@@ -643,7 +723,9 @@ impl TransferPolicyId {
 
     pub const ENTRY: u8 = 42;
 
-    pub(crate) const FACTS: u8 = M_REQUIRED + ONE_OCTET * TransferPolicyId::WIDTH as u8;
+    pub(crate) const M: bool = true;
+
+    pub(crate) const FORM: Form = Form::Fixed(TransferPolicyId::WIDTH);
 }
 
 #[derive(Drop)]
@@ -658,7 +740,9 @@ impl NumberOfUes {
 
     pub const ENTRY: u8 = 43;
 
-    pub(crate) const FACTS: u8 = M_REQUIRED + ONE_OCTET * NumberOfUes::WIDTH as u8;
+    pub(crate) const M: bool = true;
+
+    pub(crate) const FORM: Form = Form::Fixed(NumberOfUes::WIDTH);
 }
 
 // 3GPP: any length
@@ -673,7 +757,9 @@ impl NetworkAreaInfoList {
 
     pub const ENTRY: u8 = 44;
 
-    pub(crate) const FACTS: u8 = M_REQUIRED;
+    pub(crate) const M: bool = true;
+
+    pub(crate) const FORM: Form = Form::Any;
 }
 
 #[derive(Drop)]
@@ -686,7 +772,9 @@ impl ReferenceId {
 
     pub const ENTRY: u8 = 45;
 
-    pub(crate) const FACTS: u8 = M_REQUIRED;
+    pub(crate) const M: bool = true;
+
+    pub(crate) const FORM: Form = Form::Any;
 }
 
 // 3GPP: groups
@@ -701,7 +789,9 @@ impl TimeWindow {
 
     pub const ENTRY: u8 = 46;
 
-    pub(crate) const FACTS: u8 = M_REQUIRED + GROUP;
+    pub(crate) const M: bool = true;
+
+    pub(crate) const FORM: Form = Form::Group(Grammar::TimeWindow);
 }
 
 #[derive(Drop)]
@@ -714,5 +804,7 @@ impl TransferPolicy {
 
     pub const ENTRY: u8 = 47;
 
-    pub(crate) const FACTS: u8 = M_REQUIRED + GROUP;
+    pub(crate) const M: bool = true;
+
+    pub(crate) const FORM: Form = Form::Group(Grammar::TransferPolicy);
 }

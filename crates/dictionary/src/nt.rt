@@ -3,7 +3,7 @@ use crate::kinds;
 
 pub(crate) const CODES: usize = 9;
 
-pub(crate) const TABLE: [u8; CODES] = [
+pub(crate) static TABLE: [u8; CODES] = [
     kinds::NetworkAreaInfoList::ENTRY,
     kinds::ReferenceId::ENTRY,
     kinds::TransferRequestType::ENTRY,

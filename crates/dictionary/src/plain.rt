@@ -6,7 +6,7 @@ pub const PLAIN_CODES: usize = 651;
 
 const NONE: u8 = kinds::NO_ENTRY;
 
-pub(crate) const TABLE: [u8; PLAIN_CODES] = [
+pub(crate) static TABLE: [u8; PLAIN_CODES] = [
     // 0 to 32
     NONE,
     NONE,

@@ -1,21 +1,11 @@
 -- `dictionary::entry_by` meets its contract.
-use mathlib.Core.Path.{sym, ◌∙◌}
+use mathlib.Core.Path.{sym}
 use mathlib.Core.List.{[], ◌∷◌}
 use borrow.Author.Tests.{ne_eqb}
 use Rattle.rules.specs.Dictionary.{dictionary}
 use Rattle.dictionary.specs.Table.{entry_by}
 use Rattle.dictionary.proofs.Entries.{absent_vendor}
 use Rattle.dictionary.proofs.entry_by.Goals as goal
-
-pub returns-in-0 : goal.returns-in-0
-unfolding entry_by
-returns-in-0 c =
-    c.plain_entry.ensures ∙ rw c.in-0.is
-
-pub returns-in-10415 : goal.returns-in-10415
-unfolding entry_by
-returns-in-10415 c =
-    c.entry_of_3gpp.ensures ∙ rw c.in-10415.is
 
 pub returns-in_default : goal.returns-in_default
 unfolding entry_by dictionary
