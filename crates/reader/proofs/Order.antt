@@ -1,5 +1,6 @@
 -- A command's checks in order: its header, its walk, its lists; and what is read of it.
 use mathlib.Core.Path.{◌≡◌, refl, sym, ap, ◌∙◌}
+use Rattle.std.specs.Prelude.{Err, Ok}
 use mathlib.Core.List.{List}
 use Prim.Native.Nat.{ℕ, ◌+◌, ◌≤◌, min}
 use native.Mathlib.Omega.{arith}
@@ -7,14 +8,13 @@ use borrow.Author.Tests.{le-ltb}
 use lib.ListN.{length}
 use Rattle.rules.specs.declared.Avp.{Avp}
 use Rattle.rules.specs.declared.Verdict.{Verdict}
-use Rattle.rules.specs.declared.Outcome.{Outcome}
-use Rattle.rules.specs.declared.Outcome.TheVariants.{Pass, Refused}
 use Rattle.rules.specs.declared.Record.{Record}
 use Rattle.rules.specs.declared.Reading.{Reading}
-use Rattle.rules.specs.Verdict.{verdict, verdict_of, or_else}
+use Rattle.rules.specs.Verdict.{verdict, verdict_of, or_else, Outcome, no_refusal}
 use Rattle.rules.specs.Header.{header_outcome}
 use Rattle.rules.specs.Walk.{Walked, whole, stopped, avps_of}
-use Rattle.rules.specs.Dictionary.{Entry, dictionary}
+use Rattle.rules.specs.declared.Entry.{Entry}
+use Rattle.rules.specs.Dictionary.{dictionary}
 use Rattle.rules.specs.Command.{command_rules, own_list, walk_by, walk_of, lists_outcome, walked_outcome, command_outcome, command_verdict}
 use Rattle.rules.specs.Record.{record_of, empty_record, reading}
 use Rattle.rules.proofs.Outcomes.{refused_first, pass_first}
@@ -26,9 +26,8 @@ use Rattle.dictionary.proofs.Table.{table_same, table_finds, entry_few}
 use Rattle.walk_log.specs.Log.{put_all, logged_of, avps_in}
 use Rattle.walk_log.specs.Families.{none_logged, logged_from, Keeps, IsForest}
 use Rattle.walk_log.proofs.Families.{logged_none, logged_same, kept_avps}
-use Rattle.walk.specs.declared.Walk.{Walk}
-use Rattle.walk.specs.declared.Walk.TheVariants.{Whole, Stopped}
-use Rattle.walk.specs.Answer.{count_of}
+use Rattle.walk.specs.declared.Stopped.{Stopped}
+use Rattle.walk.specs.Answer.{Walk, count_of}
 use Rattle.walk.specs.Promise.{answer_of, command_walk, number_by, CommandWalked}
 use Rattle.walk.proofs.Same.{walk_same}
 use Rattle.lists.specs.Exchanges.{lists_by, lists_in}
@@ -37,35 +36,35 @@ use Rattle.reader.specs.declared.Judgement.{Judgement}
 use Rattle.reader.specs.Promise.{walked_in, outcome_in, met_by, count_by, log_after_by, IsJudgedBy, log_after, IsJudged}
 
 -- the outcome of a walk, by the answer that it gave
-walked_whole : (s log : List ℕ) (w : Walked) (c : ℕ) → Whole c ≡ answer_of 0 w
+walked_whole : (s log : List ℕ) (w : Walked) (c : ℕ) → Ok c ≡ answer_of 0 w
     → walked_in s log w ≡ lists_in (command_rules s) s log (length s) c
 walked_whole s log (whole xs) c e =
     let n : c ≡ 0 + length xs = cc in
     ap (lists_in (command_rules s) s log (length s)) (omega (arith, n))
 walked_whole s log (stopped xs v) c e = let z : ◌≡◌ {A = ℕ} 0 1 = cc in absurd (omega arith)
 
-walked_stopped : (s log : List ℕ) (w : Walked) (c : ℕ) (v : Verdict) → Stopped c v ≡ answer_of 0 w → walked_in s log w ≡ Refused v
-walked_stopped s log (whole xs) c v e = let z : ◌≡◌ {A = ℕ} 0 1 = cc in absurd (omega arith)
-walked_stopped s log (stopped xs u) c v e = cc
+walked_stopped : (s log : List ℕ) (w : Walked) (t : Stopped) → Err t ≡ answer_of 0 w → walked_in s log w ≡ Err t.verdict
+walked_stopped s log (whole xs) t e = let z : ◌≡◌ {A = ℕ} 0 1 = cc in absurd (omega arith)
+walked_stopped s log (stopped xs u) t e = cc
 
 pub verdict_told : (s : List ℕ) (o : Outcome) → o ≡ command_outcome s → verdict_of o ≡ command_verdict s
 unfolding command_verdict
 verdict_told s o e = ap verdict_of e
 
-count_whole : (w : Walked) (c : ℕ) → Whole c ≡ answer_of 0 w → count_of w ≡ c
+count_whole : (w : Walked) (c : ℕ) → Ok c ≡ answer_of 0 w → count_of w ≡ c
 count_whole (whole xs) c e = let n : c ≡ 0 + length xs = cc in omega (arith, n)
 count_whole (stopped xs v) c e = let z : ◌≡◌ {A = ℕ} 0 1 = cc in absurd (omega arith)
 
-count_stopped : (w : Walked) (c : ℕ) (v : Verdict) → Stopped c v ≡ answer_of 0 w → count_of w ≡ 0
-count_stopped (whole xs) c v e = let z : ◌≡◌ {A = ℕ} 0 1 = cc in absurd (omega arith)
-count_stopped (stopped xs u) c v e = refl
+count_stopped : (w : Walked) (t : Stopped) → Err t ≡ answer_of 0 w → count_of w ≡ 0
+count_stopped (whole xs) t e = let z : ◌≡◌ {A = ℕ} 0 1 = cc in absurd (omega arith)
+count_stopped (stopped xs u) t e = refl
 
-never_whole : {C : Type 0} (c : ℕ) (v : Verdict) (xs : List Avp) → Stopped c v ≡ answer_of 0 (whole xs) → C
-never_whole c v xs e = let z : ◌≡◌ {A = ℕ} 0 1 = cc in absurd (omega arith)
+never_whole : {C : Type 0} (t : Stopped) (xs : List Avp) → Err t ≡ answer_of 0 (whole xs) → C
+never_whole t xs e = let z : ◌≡◌ {A = ℕ} 0 1 = cc in absurd (omega arith)
 
-or_else_same : (o p q : Outcome) → (o ≡ Pass → p ≡ q) → or_else o p ≡ or_else o q
-or_else_same Pass p q h = h refl
-or_else_same (Refused v) p q h = refl
+or_else_same : (o p q : Outcome) → (o ≡ no_refusal → p ≡ q) → or_else o p ≡ or_else o q
+or_else_same (Ok u) p q h = h refl
+or_else_same (Err v) p q h = refl
 
 -- ---- the right table
 
@@ -81,13 +80,13 @@ module _ (table : List ℕ) (is : IsTable table) where
 
   met_same : (s : List ℕ) (o : Outcome) → met_by (dictionary_by table) s o ≡ met_by dictionary s o
   unfolding walk_of
-  met_same s Pass = ap avps_of (walks_same s)
-  met_same s (Refused v) = refl
+  met_same s (Ok u) = ap avps_of (walks_same s)
+  met_same s (Err v) = refl
 
   count_same : (s : List ℕ) (o : Outcome) → count_by (dictionary_by table) s o ≡ count_by dictionary s o
   unfolding walk_of
-  count_same s Pass = ap count_of (walks_same s)
-  count_same s (Refused v) = refl
+  count_same s (Ok u) = ap count_of (walks_same s)
+  count_same s (Err v) = refl
 
   log_same : (s before : List ℕ) → log_after_by (dictionary_by table) (number_by table) s before ≡ log_after s before
   unfolding log_after_by log_after
@@ -113,7 +112,7 @@ module _ (table : List ℕ) (is : IsTable table) where
   walked_same s log (whole xs) h = h xs refl
   walked_same s log (stopped xs v) h = refl
 
-  outcome_same : (s log : List ℕ) → ((xs : List Avp) → header_outcome s ≡ Pass → walk_by (dictionary_by table) s ≡ whole xs
+  outcome_same : (s log : List ℕ) → ((xs : List Avp) → header_outcome s ≡ no_refusal → walk_by (dictionary_by table) s ≡ whole xs
       → (length xs ≤ 256) × Keeps log (logged_from (number_by table) 0 xs) × IsForest 1 xs)
       → outcome_in (dictionary_by table) s log ≡ command_outcome s
   unfolding outcome_in command_outcome
@@ -134,23 +133,22 @@ module _ (table s : List ℕ) where
   dict = dictionary_by table
 
   -- a refusal of the header is the answer, and the log is as it was
-  pub judged_header : (before : List ℕ) (o : Outcome) {v : Verdict} → o ≡ header_outcome s → o ≡ Refused v
-      → IsJudgedBy table s before (record { outcome = o; count = 0 }) before
+  pub judged_header : (before : List ℕ) {v : Verdict} → Err v ≡ header_outcome s → IsJudgedBy table s before (record { outcome = Err v; count = 0 }) before
   unfolding outcome_in log_after_by
-  judged_header before o {v} e q =
-      let r : header_outcome s ≡ Refused v = sym e ∙ q in
-      let all : outcome_in dict s before ≡ Refused v = refused_first (header_outcome s) (walked_in s before (walk_by dict s)) r ∙ r in
+  judged_header before {v} e =
+      let r : header_outcome s ≡ Err v = sym e in
+      let all : outcome_in dict s before ≡ Err v = refused_first (header_outcome s) (walked_in s before (walk_by dict s)) r ∙ r in
       record {
-        outcome = q ∙ sym all;
+        outcome = sym all;
         counted = rw r;
         left = rw (r, logged_none (number_by table) 0);
-        right = λ is. q ∙ sym all ∙ outcome_same table is s before (λ xs pass _. never (sym r ∙ pass));
-        long = λ p. never (sym q ∙ p);
-        few = λ p. never (sym q ∙ p);
-        avps = λ p. never (sym q ∙ p);
+        right = λ is. sym all ∙ outcome_same table is s before (λ xs pass _. never (sym r ∙ pass));
+        long = λ p. never p;
+        few = λ p. never p;
+        avps = λ p. never p;
       }
 
-  module _ (pass : header_outcome s ≡ Pass) where
+  module _ (pass : header_outcome s ≡ no_refusal) where
     pub header_long : 20 ≤ length s
     header_long = (headed s pass).enough
 
@@ -174,22 +172,22 @@ module _ (table s : List ℕ) where
       left_by_lem = rw pass (rw walk_of_lem at w.logged)
 
       -- the walk stopped at a fault
-      pub judged_stopped : (c : ℕ) (v : Verdict) → r ≡ Stopped c v → IsJudgedBy table s before (record { outcome = Refused v; count = 0 }) after
-      judged_stopped c v e =
+      pub judged_stopped : (t : Stopped) → r ≡ Err t → IsJudgedBy table s before (record { outcome = Err t.verdict; count = 0 }) after
+      judged_stopped t e =
           let stop = sym e ∙ answered in
-          let all : outcome_in dict s after ≡ Refused v = outcome_of ∙ walked_stopped s after (walk_by dict s) c v stop in
+          let all : outcome_in dict s after ≡ Err t.verdict = outcome_of ∙ walked_stopped s after (walk_by dict s) t stop in
           record {
             outcome = sym all;
-            counted = rw pass (sym (count_stopped (walk_by dict s) c v stop));
+            counted = rw pass (sym (count_stopped (walk_by dict s) t stop));
             left = left_by_lem;
-            right = λ is. sym all ∙ outcome_same table is s after (λ xs _ u. never_whole c v xs (stop ∙ ap (answer_of 0) u));
+            right = λ is. sym all ∙ outcome_same table is s after (λ xs _ u. never_whole t xs (stop ∙ ap (answer_of 0) u));
             long = λ p. never p;
             few = λ p. never p;
             avps = λ p. never p;
           }
 
       -- the walk is whole, and the lists are judged
-      pub judged_whole : (c : ℕ) → r ≡ Whole c → (o : Outcome) → o ≡ lists_in (command_rules s) s after (length s) c
+      pub judged_whole : (c : ℕ) → r ≡ Ok c → (o : Outcome) → o ≡ lists_in (command_rules s) s after (length s) c
           → IsJudgedBy table s before (record { outcome = o; count = c }) after
       judged_whole c e o q =
           let k = w.read c e in
@@ -212,23 +210,6 @@ module _ (table s : List ℕ) where
             avps = λ _. rw number (kept_avps (number_by table) after xs (omega (arith, few, number)) kept);
           }
 
--- a refusal of the header needs no table
-pub header_refused : (s before : List ℕ) (o : Outcome) {v : Verdict} → o ≡ header_outcome s → o ≡ Refused v
-    → IsJudged s before (record { outcome = o; count = 0 }) before
-unfolding command_outcome log_after log_after_by
-header_refused s before o {v} e q =
-    let r : header_outcome s ≡ Refused v = sym e ∙ q in
-    let is = q ∙ sym (refused_first (header_outcome s) (walked_outcome s (walk_of s)) r ∙ r) in
-    record {
-      outcome = is;
-      told = verdict_told s o is;
-      counted = rw r;
-      left = rw (r, logged_none (entry_of dictionary) 0);
-      long = λ p. never (sym q ∙ p);
-      few = λ p. never (sym q ∙ p);
-      avps = λ p. never (sym q ∙ p);
-    }
-
 -- by the right table, in document 01's terms
 pub judged_right : (table : List ℕ) → IsTable table → (s before : List ℕ) {r : Judgement} {after : List ℕ}
     → IsJudgedBy table s before r after → IsJudged s before r after
@@ -245,20 +226,20 @@ judged_right table is s before j = record {
 -- ---- verdict and record
 
 module _ (s : List ℕ) where
-  pub verdict_accepted : command_outcome s ≡ Pass → verdict 0 0 0 0 ≡ command_verdict s
+  pub verdict_accepted : command_outcome s ≡ no_refusal → verdict 0 0 0 0 ≡ command_verdict s
   unfolding command_verdict
   verdict_accepted e = rw e
 
-  pub verdict_refused : {v : Verdict} → command_outcome s ≡ Refused v → v ≡ command_verdict s
+  pub verdict_refused : {v : Verdict} → command_outcome s ≡ Err v → v ≡ command_verdict s
   unfolding command_verdict
   verdict_refused e = rw e
 
-  pub read_accepted : command_outcome s ≡ Pass → (v : Verdict) (r : Record) → v ≡ verdict 0 0 0 0 → r ≡ record_of s (avps_of (walk_of s))
+  pub read_accepted : command_outcome s ≡ no_refusal → (v : Verdict) (r : Record) → v ≡ verdict 0 0 0 0 → r ≡ record_of s (avps_of (walk_of s))
       → ◌≡◌ {A = Reading} (record { verdict = v; «record» = r }) (reading s)
   unfolding reading
   read_accepted e v r p q = rw (p, q, verdict_accepted e, e)
 
-  pub read_refused : {v : Verdict} → command_outcome s ≡ Refused v → (r : Record) → r ≡ empty_record
+  pub read_refused : {v : Verdict} → command_outcome s ≡ Err v → (r : Record) → r ≡ empty_record
       → ◌≡◌ {A = Reading} (record { verdict = v; «record» = r }) (reading s)
   unfolding reading
   read_refused e r q = rw (q, verdict_refused e, e)

@@ -7,9 +7,8 @@ use native.Mathlib.Omega.{arith}
 use lib.ListN.{length, set, take, replicate}
 use lib.Seq.{take-suc, take-length, length-take-le, set_at, append_snoc}
 use Rattle.rules.specs.declared.Avp.{Avp}
-use Rattle.rules.specs.Header.{command_flags, hop_by_hop, end_to_end, is_request, is_proxiable, is_error, is_retransmitted}
 use Rattle.rules.specs.Search.{blank, avp_in}
-use Rattle.rules.specs.Record.{in_room, record_of}
+use Rattle.rules.specs.Record.{in_room}
 
 -- ---- places filled one by one
 
@@ -29,17 +28,3 @@ filled_next xs i h k =
 
 pub filled_all : (xs : List Avp) (n : ℕ) → length xs ≡ n → filled xs n ≡ in_room xs
 filled_all xs n e = rw (← e, take-length xs)
-
--- the record of a command, with the count of its AVPs as a number
-pub record_is : (s : List ℕ) (xs : List Avp) (n : ℕ) → length xs ≡ n → record_of s xs ≡ record {
-  r = is_request (command_flags s);
-  p = is_proxiable (command_flags s);
-  e = is_error (command_flags s);
-  t = is_retransmitted (command_flags s);
-  hop_by_hop = hop_by_hop s;
-  end_to_end = end_to_end s;
-  count = n;
-  avps = in_room xs;
-}
-unfolding record_of
-record_is s xs n e = rw (← e)

@@ -1,12 +1,11 @@
 -- The promises of the reader: the verdict of a slice of octets, and what a lent log holds afterwards.
-use Rattle.std.specs.Prelude.{◌≡◌, ℕ, ◌≤◌, List, [], length}
+use Rattle.std.specs.Prelude.{◌≡◌, ℕ, ◌≤◌, List, [], length, Err, Ok}
 use Rattle.rules.specs.declared.Avp.{Avp}
 use Rattle.rules.specs.declared.Verdict.{Verdict}
-use Rattle.rules.specs.declared.Outcome.{Outcome}
-use Rattle.rules.specs.declared.Outcome.TheVariants.{Pass, Refused}
-use Rattle.rules.specs.Verdict.{or_else, verdict_of}
+use Rattle.rules.specs.Verdict.{or_else, verdict_of, Outcome, no_refusal}
 use Rattle.rules.specs.Header.{header_size, header_outcome}
-use Rattle.rules.specs.Dictionary.{Entry, dictionary}
+use Rattle.rules.specs.declared.Entry.{Entry}
+use Rattle.rules.specs.Dictionary.{dictionary}
 use Rattle.rules.specs.Walk.{most_avps, Walked, whole, stopped, avps_of}
 use Rattle.rules.specs.Command.{command_rules, walk_by, walk_of, command_outcome, command_verdict}
 use Rattle.dictionary.specs.Entries.{entry_of}
@@ -23,7 +22,7 @@ use Rattle.reader.specs.declared.Judgement.{Judgement}
 -- a fault of the walk is the answer; else its lists by the log that it left
 abbrev pub walked_in : List ℕ → List ℕ → Walked → Outcome
 walked_in s log (whole xs) = lists_in (command_rules s) s log (length s) (length xs)
-walked_in s log (stopped xs v) = Refused v
+walked_in s log (stopped xs v) = Err v
 
 -- the outcome of a command whose walk went by a dictionary and left this log
 unfoldable pub outcome_in : List Entry → List ℕ → List ℕ → Outcome
@@ -31,8 +30,8 @@ outcome_in dict s log = or_else (header_outcome s) (walked_in s log (walk_by dic
 
 -- the AVPs that such a walk met; none where the header is refused
 abbrev pub met_by : List Entry → List ℕ → Outcome → List Avp
-met_by dict s Pass = avps_of (walk_by dict s)
-met_by dict s (Refused v) = []
+met_by dict s (Ok u) = avps_of (walk_by dict s)
+met_by dict s (Err v) = []
 
 -- a log after a command was judged: the AVPs that its walk met, with their families, from position 0 on; `entry` gives
 -- the number of a name's entry
@@ -42,8 +41,8 @@ log_after_by dict entry s before = put_all before 0 (logged_from entry 0 (met_by
 -- the count that is told: the AVPs of a whole walk, however its lists are judged; 0 after a fault of header or walk,
 -- though the log then holds the AVPs that were met before it
 abbrev pub count_by : List Entry → List ℕ → Outcome → ℕ
-count_by dict s Pass = count_of (walk_by dict s)
-count_by dict s (Refused v) = 0
+count_by dict s (Ok u) = count_of (walk_by dict s)
+count_by dict s (Err v) = 0
 
 -- what judging a command by a table gives; by the right one document 01's outcome
 pub record IsJudgedBy (table s before : List ℕ) (r : Judgement) (after : List ℕ) : Type 0 where
@@ -51,9 +50,9 @@ pub record IsJudgedBy (table s before : List ℕ) (r : Judgement) (after : List 
   pub counted : r.count ≡ count_by (dictionary_by table) s (header_outcome s)
   pub left : after ≡ log_after_by (dictionary_by table) (number_by table) s before
   pub right : IsTable table → r.outcome ≡ command_outcome s
-  pub long : r.outcome ≡ Pass → header_size ≤ length s
-  pub few : r.outcome ≡ Pass → r.count ≤ most_avps
-  pub avps : r.outcome ≡ Pass → avps_in after r.count ≡ avps_of (walk_by (dictionary_by table) s)
+  pub long : r.outcome ≡ no_refusal → header_size ≤ length s
+  pub few : r.outcome ≡ no_refusal → r.count ≤ most_avps
+  pub avps : r.outcome ≡ no_refusal → avps_in after r.count ≡ avps_of (walk_by (dictionary_by table) s)
 
 -- ---- by document 01's dictionary
 
@@ -66,9 +65,9 @@ pub record IsJudged (s before : List ℕ) (r : Judgement) (after : List ℕ) : T
   pub told : verdict_of r.outcome ≡ command_verdict s
   pub counted : r.count ≡ count_by dictionary s (header_outcome s)
   pub left : after ≡ log_after s before
-  pub long : r.outcome ≡ Pass → header_size ≤ length s
-  pub few : r.outcome ≡ Pass → r.count ≤ most_avps
-  pub avps : r.outcome ≡ Pass → avps_in after r.count ≡ avps_of (walk_of s)
+  pub long : r.outcome ≡ no_refusal → header_size ≤ length s
+  pub few : r.outcome ≡ no_refusal → r.count ≤ most_avps
+  pub avps : r.outcome ≡ no_refusal → avps_in after r.count ≡ avps_of (walk_of s)
 
 -- what `outcome` gives
 pub record Settled (s before : List ℕ) (r : Outcome) (after : List ℕ) : Type 0 where

@@ -8,30 +8,30 @@ ghost use Rattle.walk_log.specs.Log.{avps_in};
 
 use octets::has_flag;
 use rules::{Avp, Record, flags, limits};
+use walk_log::Log;
 
 // An array of 256 blank places.
 fn blank_avps() -> [Avp; limits::MOST_AVPS]
     ensures { result ≡ replicate most_avps blank }
 {
-    let blank = avp::blank();
-    [blank; limits::MOST_AVPS]
+    [Avp::default(); limits::MOST_AVPS]
 }
 
-// The AVPs of a log in room for 256.
-fn avps_of(log: &[u32; limits::LOG_NUMBERS], count: usize) -> [Avp; limits::MOST_AVPS]
+// The AVPs of a log in room for 256. Indexed: `iter_mut`, `enumerate` and `take` would say no more, and a proof knows
+// the length alone after an adapter of `iter_mut`.
+fn avps_of(log: &Log, count: usize) -> [Avp; limits::MOST_AVPS]
     requires { count ≤ most_avps }
     ensures { result ≡ in_room (avps_in log.now count) }
 {
     let mut avps = blank_avps();
-    let mut i: usize = 0;
-    while i < count {
+    for i in 0..count {
         avps[i] = walk_log::get(log, i);
-        i += 1;
     }
     avps
 }
 
-// All numbers 0.
+// All numbers 0, written out: std has no Default for an array of 256.
+#[tactic(auto, unfolding(rules::specs::Record::empty_record))]
 pub(crate) fn empty_record() -> Record
     ensures { result ≡ empty_record }
 {
@@ -48,7 +48,7 @@ pub(crate) fn empty_record() -> Record
 }
 
 // The record of a command whose AVPs stand in a log.
-pub(crate) fn record_of(s: &[u8], log: &[u32; limits::LOG_NUMBERS], count: usize) -> Record
+pub(crate) fn record_of(s: &[u8], log: &Log, count: usize) -> Record
     requires { (header_size ≤ length s.now) × (count ≤ most_avps) }
     ensures { result ≡ record_of s.now (avps_in log.now count) }
 {

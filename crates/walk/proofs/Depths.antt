@@ -8,11 +8,9 @@ use borrow.Author.Tests.{ltb-true, ltb-false}
 use lib.Dec.{ltb}
 use lib.ListN.{length}
 use Rattle.rules.specs.declared.Avp.{Avp}
-use Rattle.rules.specs.declared.Checked.{Checked}
-use Rattle.rules.specs.declared.Checked.TheVariants.{Fault, Plain, Group}
 use Rattle.rules.specs.Avp.{end_of}
-use Rattle.rules.specs.Dictionary.{Entry}
-use Rattle.rules.specs.Walk.{Standing, checked, Walked, whole, stopped, avps_of, after, and_then, in_group, behind, walk_avp, walk_list}
+use Rattle.rules.specs.declared.Entry.{Entry}
+use Rattle.rules.specs.Walk.{Standing, checked, Walked, whole, stopped, avps_of, after, and_then, in_group, behind, walk_avp, walk_list, Checked, Fault, Plain, Group}
 use Rattle.rules.proofs.Fields.{avp_at_depth}
 use Rattle.rules.proofs.Walk.{by_cases, avps_after, avp_fault, avp_plain, avp_group, list_none, list_end, list_more}
 use Rattle.rules.proofs.Passed.{plain_is, group_is, plain_framed, group_framed}

@@ -1,12 +1,13 @@
 -- The promise of a command's walk: what its own list gives, and what is read back from the log.
 use mathlib.Core.Path.{◌≡◌, refl, sym, ap, ◌∙◌}
+use Rattle.std.specs.Prelude.{Err, Ok}
 use mathlib.Core.List.{List, []}
 use Prim.Native.Nat.{ℕ, ◌+◌, ◌≤◌, ◌<◌}
 use native.Mathlib.Omega.{arith}
 use borrow.Author.Tests.{lt-ltb, le-ltb}
 use lib.ListN.{length}
 use Rattle.rules.specs.Verdict.{verdict, verdict_of}
-use Rattle.rules.specs.Dictionary.{Entry}
+use Rattle.rules.specs.declared.Entry.{Entry}
 use Rattle.rules.specs.Walk.{Walked, whole, stopped, avps_of, stop_of, walk_list}
 use Rattle.rules.specs.Command.{own_list}
 use Rattle.rules.proofs.Walk.{list_end}
@@ -14,9 +15,7 @@ use Rattle.walk_log.specs.Log.{put_all}
 use Rattle.walk_log.specs.Families.{logged_from}
 use Rattle.walk_log.proofs.Kept.{kept}
 use Rattle.walk_log.proofs.Families.{Ending, length-logged, logged_none, logged_fits}
-use Rattle.walk.specs.declared.Walk.{Walk}
-use Rattle.walk.specs.declared.Walk.TheVariants.{Whole, Stopped}
-use Rattle.walk.specs.Answer.{verdict_of_walk, count_of_walk, count_of}
+use Rattle.walk.specs.Answer.{Walk, stop, verdict_of_walk, count_of_walk, count_of}
 use Rattle.walk.specs.Promise.{answer_of, command_walk, ListWalked, IsKept, CommandWalked}
 use Rattle.walk.proofs.Depths.{list_inside, list_grown, whole_forest}
 
@@ -51,7 +50,7 @@ module _ (dict : List Entry) (entry : ℕ → ℕ → ℕ) (s : List ℕ) where
 
     -- a whole walk of at most 256 AVPs is read back from its log
     read_back : (before log : List ℕ) → length before ≡ 2304 → Put before log
-        → (c : ℕ) → c ≤ 256 → (w : Walked) → command_walk dict s ≡ w → Whole c ≡ answer_of 0 w → IsKept dict entry s log c
+        → (c : ℕ) → c ≤ 256 → (w : Walked) → command_walk dict s ≡ w → Ok c ≡ answer_of 0 w → IsKept dict entry s log c
     read_back before log room put c few (whole xs) e q =
         let n : c ≡ length xs = omega (arith, whole_count) in
         let more = length-logged entry 0 xs in
@@ -82,9 +81,9 @@ module _ (dict : List Entry) (entry : ℕ → ℕ → ℕ) (s : List ℕ) where
           read = λ c e. read_back before log room put c (l.within c e) (command_walk dict s) refl (sym e ∙ answer);
         }
 
-    pub none_walked : (before : List ℕ) → length before ≡ 2304 → length s < 20 → CommandWalked dict entry s before (Whole 0) before
+    pub none_walked : (before : List ℕ) → length before ≡ 2304 → length s < 20 → CommandWalked dict entry s before (Ok 0) before
     none_walked before room h =
-        let answer : Whole 0 ≡ answer_of 0 (command_walk dict s) = rw (no_list h) in
+        let answer : Ok 0 ≡ answer_of 0 (command_walk dict s) = rw (no_list h) in
         let put : Put before before = rw (no_list h, logged_none entry 0) in
         record {
           told = ap verdict_of_walk answer ∙ told_walk (command_walk dict s);
@@ -97,7 +96,7 @@ module _ (dict : List Entry) (entry : ℕ → ℕ → ℕ) (s : List ℕ) where
               read_back before before room put c (omega arith) (command_walk dict s) refl (sym e ∙ answer);
         }
 
-  pub refused_walked : (before : List ℕ) → 16384 < length s → CommandWalked dict entry s before (Stopped 0 (verdict 7001 1 0 0)) before
+  pub refused_walked : (before : List ℕ) → 16384 < length s → CommandWalked dict entry s before (Err (stop 0 (verdict 7001 1 0 0))) before
   refused_walked before h = record {
     told = rw (long_command h);
     counted = rw (long_command h);

@@ -6,13 +6,11 @@ use Prim.Native.Nat.{ℕ, zero, suc}
 use lib.Dec.{ltb}
 use lib.ListN.{length}
 use Rattle.rules.specs.declared.Avp.{Avp}
-use Rattle.rules.specs.declared.Checked.{Checked}
-use Rattle.rules.specs.declared.Checked.TheVariants.{Fault, Plain, Group}
-use Rattle.rules.specs.declared.Definition.{Definition}
 use Rattle.rules.specs.Verdict.{verdict}
 use Rattle.rules.specs.Avp.{avp_at}
-use Rattle.rules.specs.Dictionary.{Entry, find, is_group}
-use Rattle.rules.specs.Walk.{Standing, is_full, framing, contents, settled, checked, Walked, whole, stopped, after, and_then, in_group, behind, entered, walk_avp, walk_list}
+use Rattle.rules.specs.declared.Entry.{Entry}
+use Rattle.rules.specs.Dictionary.{find, is_group, Definition}
+use Rattle.rules.specs.Walk.{Standing, is_full, framing, contents, settled, checked, Walked, whole, stopped, after, and_then, in_group, behind, entered, walk_avp, walk_list, Checked, Fault, Plain, Group}
 
 then_same : (w : Walked) (f g : ℕ → Walked) → ((k : ℕ) → f k ≡ g k) → and_then w f ≡ and_then w g
 then_same (whole xs) f g h = ap (after xs) (h (length xs))

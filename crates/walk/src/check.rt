@@ -1,180 +1,119 @@
 // 01, Walk: the seven checks of an AVP. Check 2, its frame, is in frame.rt.
-ghost use Rattle.std.specs.Prelude.{◌≡◌, false, ◌&&◌, ◌+◌, ◌≤◌, eqb, length};
+ghost use Rattle.std.specs.Prelude.{◌≡◌, false, ◌+◌, ◌≤◌, length};
 ghost use Rattle.rules.specs.Octets.{number_at};
-ghost use Rattle.rules.specs.Verdict.{refused};
-ghost use Rattle.rules.specs.Header.{longest_command};
-ghost use Rattle.rules.specs.Avp.{flag_v, header_of};
+ghost use Rattle.rules.specs.Avp.{header_of};
 ghost use Rattle.rules.specs.Dictionary.{dictionary};
-ghost use Rattle.rules.specs.Walk.{wrong_flags, unsupported, wrong_width, wrong_value, too_deep, contents};
-ghost use Rattle.rules.specs.Walk.{checked_avp, checked, standing};
+ghost use Rattle.rules.specs.Walk.{wrong_flags, unsupported, wrong_width, wrong_value, too_deep, contents, checked};
 ghost use Rattle.dictionary.specs.Entries.{definition_at};
 ghost use Rattle.dictionary.specs.Table.{dictionary_by};
-ghost use Rattle.walk.specs.Promise.{InList, checked_with, number_by, with_number, with_entry};
+ghost use Rattle.walk.specs.Promise.{standing_of, number_by, passed_of};
 
 use crate::frame;
-use crate::frame::Frame;
+use crate::standing::Standing;
 use avp::is_named;
 use dictionary::kinds::{AuthSessionState, TransferRequestType};
 use dictionary::plain;
 use octets::has_flag;
 use rules::{Avp, Outcome, Verdict, flags, limits};
 
-// What the checks of an AVP give, as `Checked`, with the number of the entry of an AVP that passed.
-#[derive(Drop)]
-pub(crate) enum CheckedEntry {
-    Faulty(Verdict),
-    Basic { avp: Avp, entry: u8 },
-    Grouped { avp: Avp, entry: u8 },
+// An AVP that passed its checks, the number of its entry, and whether its data is read as a list.
+#[derive(Clone, Copy)]
+pub(crate) struct Passed {
+    pub(crate) avp: Avp,
+    pub(crate) entry: u8,
+    pub(crate) is_group: bool,
 }
 
-// V set with vendor 0.
-fn has_vendor_zero(flags: u8, vendor: u32) -> bool
-    ensures { result ≡ (flag_v flags && eqb vendor 0) }
-{
-    if has_flag(flags, flags::VENDOR) {
-        return vendor == 0;
-    }
-    false
-}
-
-// Check 3.
+// Check 3. Each check takes AVP and entry, as 01's definitions do (`wrong_flags flags a d`); Passed is made when all
+// have passed.
+#[tactic(auto, unfolding(rules::specs::Walk::wrong_flags))]
 fn wrong_flags(flags: u8, a: Avp, entry: u8) -> bool
     ensures { result ≡ wrong_flags flags a (definition_at dictionary entry) }
 {
-    let reserved = flags % 32;
-    if reserved != 0 {
-        return true;
-    }
-    if has_vendor_zero(flags, a.vendor) {
-        return true;
-    }
-    if dictionary::requires_m(entry) {
-        return !a.m;
-    }
-    false
+    flags % 32 != 0
+        || has_flag(flags, flags::VENDOR) && a.vendor == limits::NO_VENDOR
+        || dictionary::requires_m(entry) && !a.m
 }
 
 // Check 4.
+#[tactic(auto, unfolding(rules::specs::Walk::unsupported))]
 fn unsupported_name(a: Avp, entry: u8) -> bool
     ensures { result ≡ unsupported a (definition_at dictionary entry) }
 {
-    if dictionary::is_known(entry) {
-        return false;
-    }
-    a.m
+    !dictionary::is_known(entry) && a.m
 }
 
 // Check 5.
+#[tactic(auto, unfolding(rules::specs::Walk::wrong_width))]
 fn wrong_width(a: Avp, entry: u8) -> bool
     ensures { result ≡ wrong_width a (definition_at dictionary entry) }
 {
     let width = dictionary::width(entry);
-    if width == 0 {
-        return false;
-    }
-    a.length != width
+    width != 0 && a.length != width
 }
 
 // Check 6, by the value of the AVP's first four octets.
+#[tactic(auto, unfolding(rules::specs::Walk::wrong_value))]
 fn wrong_value(s: &[u8], a: Avp) -> bool
     ensures { result ≡ wrong_value a (number_at 4 s.now a.start) }
 {
     let start = a.start as usize;
     if is_named(a, AuthSessionState::VENDOR, AuthSessionState::CODE) {
-        return octets::number4(s, start) != 1;
-    }
-    if is_named(a, TransferRequestType::VENDOR, TransferRequestType::CODE) {
+        octets::number4(s, start) != 1
+    } else if is_named(a, TransferRequestType::VENDOR, TransferRequestType::CODE) {
         let n = octets::number4(s, start);
-        if n == 0 {
-            return false;
-        }
-        return n != 1;
+        n != 0 && n != 1
+    } else {
+        false
     }
-    false
 }
 
 // Check 7.
+#[tactic(auto, unfolding(rules::specs::Walk::too_deep))]
 fn too_deep(a: Avp, entry: u8) -> bool
     ensures { result ≡ too_deep a (definition_at dictionary entry) }
 {
-    if dictionary::is_group(entry) {
-        return limits::DEEPEST <= a.depth;
-    }
-    false
+    dictionary::is_group(entry) && limits::DEEPEST <= a.depth
 }
 
-fn refusal(number: u32, at: usize, a: Avp) -> Outcome
-    requires { at ≤ longest_command }
-    ensures { result ≡ refused number at a.vendor a.code }
+// Checks 3 to 7 of the AVP where a walk stands, with the entry of its name.
+#[tactic(auto, unfolding(rules::specs::Walk::contents))]
+fn content(w: Standing<'_>, a: Avp, entry: u8) -> Outcome
+    requires { w.at + header_of false ≤ length w.s.now }
+    ensures { result ≡ contents w.entry.s.now w.entry.at a (definition_at dictionary entry) }
 {
-    avp::refusal(number, at as u32, a.vendor, a.code)
+    let s = w.s;
+    let number = if wrong_flags(s[w.at + 4], a, entry) {
+        3009
+    } else if unsupported_name(a, entry) {
+        5001
+    } else if wrong_width(a, entry) {
+        5014
+    } else if wrong_value(s, a) {
+        5004
+    } else if too_deep(a, entry) {
+        7003
+    } else {
+        return Ok(());
+    };
+    Err(w.fault(number, a.vendor, a.code))
 }
 
-// Checks 3 to 7 of the AVP at a place, with the entry of its name.
-fn content(s: &[u8], at: usize, a: Avp, entry: u8) -> Outcome
-    requires { (at + header_of false ≤ length s.now) × (at ≤ longest_command) }
-    ensures { result ≡ contents s.now at a (definition_at dictionary entry) }
+// The seven checks of the AVP where a walk stands, by a table of plain codes, which leads to the entry.
+#[tactic(auto, unfolding(rules::specs::Walk::checked))]
+pub(crate) fn check(w: Standing<'_>, table: &[u8; plain::PLAIN_CODES]) -> Result<Passed, Verdict>
+    ensures { result ≡ passed_of (number_by table.now) (checked (dictionary_by table.now) w.entry.s.now (standing_of w.entry)) }
 {
-    if wrong_flags(s[at + 4], a, entry) {
-        return refusal(3009, at, a);
+    if limits::MOST_AVPS <= w.count {
+        return Err(w.fault(7002, 0, 0));
     }
-    if unsupported_name(a, entry) {
-        return refusal(5001, at, a);
-    }
-    if wrong_width(a, entry) {
-        return refusal(5014, at, a);
-    }
-    if wrong_value(s, a) {
-        return refusal(5004, at, a);
-    }
-    if too_deep(a, entry) {
-        return refusal(7003, at, a);
-    }
-    Outcome::Pass
-}
-
-// Checks 3 to 7 of the AVP at a place, with the entry of its name, and whether its data is a list.
-fn judged(s: &[u8], at: usize, a: Avp, entry: u8) -> CheckedEntry
-    requires { (at + header_of false ≤ length s.now) × (at ≤ longest_command) }
-    ensures { result ≡ with_number entry (checked_with s.now at a (definition_at dictionary entry)) }
-{
-    let outcome = content(s, at, a, entry);
-    if let Outcome::Refused(v) = outcome {
-        return CheckedEntry::Faulty(v);
-    }
-    if dictionary::is_group(entry) {
-        return CheckedEntry::Grouped { avp: a, entry };
-    }
-    CheckedEntry::Basic { avp: a, entry }
-}
-
-// The same, by a table of plain codes, which leads to the entry.
-fn looked_up(s: &[u8], table: &[u8; plain::PLAIN_CODES], at: usize, a: Avp) -> CheckedEntry
-    requires { (at + header_of false ≤ length s.now) × (at ≤ longest_command) }
-    ensures { result ≡ with_entry (number_by table.now) (checked_avp (dictionary_by table.now) s.now at a) }
-{
+    let a = frame::framed(w)?;
     let entry = dictionary::entry_by(table, a.vendor, a.code);
-    judged(s, at, a, entry)
-}
-
-// The seven checks of the AVP at a place of a list, with `count` AVPs in the record already.
-pub(crate) fn check(
-    s: &[u8],
-    table: &[u8; plain::PLAIN_CODES],
-    at: usize,
-    end: usize,
-    depth: u32,
-    count: usize,
-) -> CheckedEntry
-    requires { InList s.now at end }
-    ensures { result ≡ with_entry (number_by table.now) (checked (dictionary_by table.now) s.now (standing at end depth count)) }
-{
-    if limits::MOST_AVPS <= count {
-        return CheckedEntry::Faulty(frame::fault(7002, at, 0, 0));
-    }
-    let framed = frame::framed(s, at, end, depth);
-    match framed {
-        Frame::Holds(a) => looked_up(s, table, at, a),
-        Frame::Broken(v) => CheckedEntry::Faulty(v),
-    }
+    content(w, a, entry)?;
+    let is_group = dictionary::is_group(entry);
+    Ok(Passed {
+        avp: a,
+        entry,
+        is_group,
+    })
 }

@@ -2,116 +2,89 @@
 // walk and the AVP walk call each other; the depth that is left falls at each group.
 #![tactic(auto)]
 
-ghost use Rattle.rules.specs.Walk.{standing};
 ghost use Rattle.std.specs.Prelude.{◌≡◌};
 ghost use Rattle.dictionary.specs.Table.{dictionary_by};
-ghost use Rattle.walk.specs.Promise.{number_by, StandsIn, met_in, step_to, AvpWalked, ListWalked, CommandWalked};
+ghost use Rattle.walk.specs.Promise.{number_by, standing_of, met_in, AvpWalked, ListWalked, CommandWalked};
 
-use crate::check::CheckedEntry;
+use crate::standing::Standing;
 use dictionary::plain;
 use rules::{Verdict, limits};
+use walk_log::Log;
 
 mod check;
 mod frame;
+mod standing;
 
-// What a walk gives: all was read, and so many AVPs stand in the log; or the fault at which it stopped, and how many
-// AVPs stand in the log by then.
-#[derive(Clone, Copy)]
-pub enum Walk {
-    Whole(usize),
-    Stopped { count: usize, verdict: Verdict },
-}
-
-// What the AVP walk gives: so many AVPs stand in the log, and the next one of the list at `next`; or the fault.
-#[derive(Drop)]
-enum Step {
-    On { count: usize, next: usize },
-    Halted { count: usize, verdict: Verdict },
+// The fault at which a walk stopped, and how many AVPs stand in the log by then.
+#[derive(Clone, Copy, Debug, PartialEq, Eq)]
+pub struct Stopped {
+    pub count: usize,
+    pub verdict: Verdict,
 }
 
 // How many AVPs stand in the log after a walk.
-fn met_in(walk: Walk) -> usize
+fn met_in(walk: Result<usize, Stopped>) -> usize
     ensures { result ≡ met_in walk }
 {
     match walk {
-        Walk::Whole(count) => count,
-        Walk::Stopped { count, verdict: _ } => count,
+        Ok(count) => count,
+        Err(stopped) => stopped.count,
     }
 }
 
-// What the AVP walk gives behind a group whose members were walked.
-fn behind_group(members: Walk, next: usize) -> Step
-    ensures { result ≡ step_to next members }
-{
-    match members {
-        Walk::Whole(count) => Step::On { count, next },
-        Walk::Stopped { count, verdict } => Step::Halted { count, verdict },
-    }
-}
-
-// One AVP of the list that ends at `end`, with `count` AVPs in the log already.
+// One AVP where a walk stands; then the walk stands behind it. The log is no field of a Standing, which is copied, as a
+// `&mut` is not; nor is the table, which the checks alone read and each field is carried through the list walk's loop.
 #[cycle(walk_avp_walk_list)]
-fn walk_avp(
-    s: &[u8],
+fn walk_avp<'a>(
+    w: Standing<'a>,
     table: &[u8; plain::PLAIN_CODES],
-    at: usize,
-    end: usize,
-    depth: u32,
-    count: usize,
-    log: &mut [u32; limits::LOG_NUMBERS],
-) -> Step
-    requires { StandsIn s.now (standing at end depth count) }
-    ensures { AvpWalked (dictionary_by table.now) (number_by table.now) s.now (standing at end depth count) log.old result log.new }
+    log: &mut Log,
+) -> Result<Standing<'a>, Stopped>
+    ensures { AvpWalked (dictionary_by table.now) (number_by table.now) w.entry.s.now (standing_of w.entry) log.old result log.new }
 {
-    let met = check::check(s, table, at, end, depth, count);
-    match met {
-        CheckedEntry::Faulty(verdict) => Step::Halted { count, verdict },
-        CheckedEntry::Basic { avp: a, entry } => {
-            walk_log::put(log, count, a);
-            walk_log::put_family(log, count, entry, count + 1);
-            Step::On {
-                count: count + 1,
-                next: frame::next_after(a),
-            }
-        }
-        CheckedEntry::Grouped { avp: a, entry } => {
-            walk_log::put(log, count, a);
-            let start = a.start as usize;
-            let length = a.length as usize;
-            let members = walk_list(s, table, start, start + length, depth + 1, count + 1, log);
-            walk_log::put_family(log, count, entry, met_in(members));
-            behind_group(members, frame::next_after(a))
-        }
+    // A fault that carries the count from where it is found, so that `?` does here too, was tried, and slower by 11
+    // instructions an AVP; so was `map_err(|verdict| Stopped { .. })?`, whose closure's ensures leaves the goal open.
+    let passed = match check::check(w, table) {
+        Ok(passed) => passed,
+        Err(verdict) => return Err(Stopped {
+            count: w.count,
+            verdict,
+        }),
+    };
+    let a = passed.avp;
+    let next = frame::next_after(a);
+    walk_log::put(log, w.count, a);
+    if !passed.is_group {
+        walk_log::put_family(log, w.count, passed.entry, w.count + 1);
+        return Ok(w.behind(next, w.count + 1));
     }
+    let start = a.start as usize;
+    let list = Standing {
+        s: w.s,
+        at: start,
+        end: start + a.length as usize,
+        depth: w.depth + 1,
+        count: w.count + 1,
+    };
+    let members = walk_list(list, table, log);
+    walk_log::put_family(log, w.count, passed.entry, met_in(members));
+    Ok(w.behind(next, members?))
 }
 
-// The AVPs from a place to the end of their list.
+// The AVPs from where a walk stands to the end of its list.
 #[cycle(walk_avp_walk_list)]
 fn walk_list(
-    s: &[u8],
+    w: Standing<'_>,
     table: &[u8; plain::PLAIN_CODES],
-    at: usize,
-    end: usize,
-    depth: u32,
-    count: usize,
-    log: &mut [u32; limits::LOG_NUMBERS],
-) -> Walk
-    requires { StandsIn s.now (standing at end depth count) }
-    ensures { ListWalked (dictionary_by table.now) (number_by table.now) s.now (standing at end depth count) log.old result log.new }
+    log: &mut Log,
+) -> Result<usize, Stopped>
+    ensures { ListWalked (dictionary_by table.now) (number_by table.now) w.entry.s.now (standing_of w.entry) log.old result log.new }
 {
-    let mut place = at;
-    let mut met = count;
-    while place < end {
-        let one = walk_avp(s, table, place, end, depth, met, log);
-        match one {
-            Step::On { count: c, next } => {
-                place = next;
-                met = c;
-            }
-            Step::Halted { count: c, verdict } => return Walk::Stopped { count: c, verdict },
-        }
+    let mut here = w;
+    while here.at < here.end {
+        here = walk_avp(here, table, log)?;
     }
-    Walk::Whole(met)
+    Ok(here.count)
 }
 
 // The walk of a command's own list, by a table of plain codes. A command without the octets of a header has no list;
@@ -119,24 +92,29 @@ fn walk_list(
 pub fn walk_command(
     s: &[u8],
     table: &[u8; plain::PLAIN_CODES],
-    log: &mut [u32; limits::LOG_NUMBERS],
-) -> Walk
+    log: &mut Log,
+) -> Result<usize, Stopped>
     ensures { CommandWalked (dictionary_by table.now) (number_by table.now) s.now log.old result log.new }
 {
-    walk_log::size(log);
     if limits::LONGEST_COMMAND < s.len() {
-        return Walk::Stopped {
+        return Err(Stopped {
             count: 0,
             verdict: Verdict {
                 number: 7001,
                 place: 1,
-                vendor: 0,
-                code: 0,
+                ..Verdict::default()
             },
-        };
+        });
     }
     if s.len() < limits::HEADER_SIZE {
-        return Walk::Whole(0);
+        return Ok(0);
     }
-    walk_list(s, table, limits::HEADER_SIZE, s.len(), 1, 0, log)
+    let own = Standing {
+        s,
+        at: limits::HEADER_SIZE,
+        end: s.len(),
+        depth: 1,
+        count: 0,
+    };
+    walk_list(own, table, log)
 }

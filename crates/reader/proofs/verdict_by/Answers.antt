@@ -6,7 +6,7 @@ use Rattle.reader.proofs.verdict_by.Goals as goal
 
 pub returns : goal.returns
 returns c =
-    let is = c.judge_by-judged.ensures in
+    let is = c.judge_by.ensures in
     record {
       answer = c.verdict_of.ensures ∙ ap verdict_of is.outcome;
       left = is.left;

@@ -8,16 +8,18 @@ use Rattle.walk.proofs.walk_command.Goals as goal
 pub returns-then-s-gt-LONGEST_COMMAND : goal.returns-then-s-gt-LONGEST_COMMAND
 returns-then-s-gt-LONGEST_COMMAND c =
     let a = c.args in
-    refused_walked (dictionary_by a.table.now) (number_by a.table.now) a.s.now a.log.now (omega arith)
+    let none = c.default.ensures.1.1 in
+    rw (none.0, none.1)
+    (refused_walked (dictionary_by a.table.now) (number_by a.table.now) a.s.now a.log.now (omega arith))
 
 pub returns-then-s-lt-HEADER_SIZE : goal.returns-then-s-lt-HEADER_SIZE
 returns-then-s-lt-HEADER_SIZE c =
     let a = c.args in
     none_walked (dictionary_by a.table.now) (number_by a.table.now) a.s.now (omega arith) a.log.now
-    c.size.ensures.1 c.if-s-lt-HEADER_SIZE.true
+    c.told-log c.if-s-lt-HEADER_SIZE.true
 
 pub returns : goal.returns
 returns c =
     let a = c.args in
     command_walked (dictionary_by a.table.now) (number_by a.table.now) a.s.now (omega arith) a.log.now
-    c.walk_list.new.log c.walk_list.result c.size.ensures.1 c.walk_list.ensures
+    c.walk_list.new.log c.walk_list.result c.told-log c.walk_list.ensures

@@ -19,12 +19,10 @@ loop-i-preserved c =
     let n = c.args.count in
     let xs = avps_in log n in
     let few = length-avps_in log n c.requires in
-    let here : avp_in xs l.i ≡ c.get.result = avps_at_lem log n l.i c.requires c.loop-i-test.true ∙ sym c.get.ensures in (
-      omega arith,
-      ap (λ (ys : List Avp). set ys l.i c.get.result) l.invariant.1
-          ∙ ap (λ (a : Avp). set (filled xs l.i) l.i a) (sym here)
-          ∙ filled_next xs l.i (omega (arith, few, c.loop-i-test.true)) (omega (arith, few, c.requires)),
-    )
+    let here : avp_in xs l.i ≡ c.get.result = avps_at_lem log n l.i c.requires c.loop-i-test.true ∙ sym c.get.ensures in
+    ap (λ (ys : List Avp). set ys l.i c.get.result) l.invariant
+    ∙ ap (λ (a : Avp). set (filled xs l.i) l.i a) (sym here)
+    ∙ filled_next xs l.i (omega (arith, few, c.loop-i-test.true)) (omega (arith, few, c.requires))
 
 pub returns : goal.returns
 returns c =
@@ -32,4 +30,4 @@ returns c =
     let log = c.args.log.now in
     let n = c.args.count in
     let e : l.i ≡ n = omega arith in
-    l.invariant.1 ∙ ap (λ (k : ℕ). filled (avps_in log n) k) e ∙ filled_all (avps_in log n) n (length-avps_in log n c.requires)
+    l.invariant ∙ ap (λ (k : ℕ). filled (avps_in log n) k) e ∙ filled_all (avps_in log n) n (length-avps_in log n c.requires)

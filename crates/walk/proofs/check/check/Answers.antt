@@ -1,37 +1,27 @@
 -- `walk::check::check` meets its contract.
-use mathlib.Core.Path.{ap}
-use Prim.Native.Nat.{◌<◌}
+use Rattle.std.proofs.lemmas.Result.{err_from_is_err_and}
 use native.Mathlib.Omega.{arith}
-use Rattle.walk.specs.declared.check.CheckedEntry.TheVariants.{Faulty}
-use Rattle.dictionary.specs.Table.{dictionary_by}
-use Rattle.rules.specs.Walk.{most_avps, standing}
-use Rattle.rules.proofs.Walk.{checked_many}
-use Rattle.walk.proofs.Framing.{holds_framed, holds_checked, broken_checked}
+use Rattle.walk.specs.Promise.{standing_of}
+use Rattle.walk.proofs.Framing.{held_framed}
+use Rattle.walk.proofs.Checks.{content_refused, content_passed}
 use Rattle.walk.proofs.check.check.Goals as goal
 
-pub returns-then-count-ge-MOST_AVPS : goal.returns-then-count-ge-MOST_AVPS
-returns-then-count-ge-MOST_AVPS c =
+pub content-requires : goal.content-requires
+content-requires c =
     let a = c.args in
-    let w = standing a.at a.end a.depth a.count in
-    rw (checked_many (dictionary_by a.table.now) a.s.now w (omega arith))
-    (ap Faulty c.fault.ensures)
+    let h = held_framed a.w.s.now (standing_of a.w) c.in_ok-a.ensures in
+    omega (arith, h)
 
-pub looked_up-requires : goal.looked_up-requires
-looked_up-requires c =
+pub returns-in_err-content : goal.returns-in_err-content
+returns-in_err-content c =
     let a = c.args in
-    let h = holds_framed a.s.now (standing a.at a.end a.depth a.count) c.in-Holds.ensures in
-    omega (arith, h, c.requires)
+    let p = err_from_is_err_and c.from_residual-in_err-content.result c.from_residual-in_err-content.ensures.1 in
+    rw (p.1, p.2)
+    (content_refused a.table.now a.w.s.now (standing_of a.w) (omega arith) c.in_ok-a.ensures _ c.entry_by-entry.ensures
+    c.in_err-content.ensures)
 
-pub returns-in-Holds : goal.returns-in-Holds
-returns-in-Holds c =
+pub returns : goal.returns
+returns c =
     let a = c.args in
-    let w = standing a.at a.end a.depth a.count in
-    let few : a.count < most_avps = omega arith in
-    rw (holds_checked a.s.now w (dictionary_by a.table.now) few c.in-Holds.ensures) c.looked_up.ensures
-
-pub returns-in-Broken : goal.returns-in-Broken
-returns-in-Broken c =
-    let a = c.args in
-    let w = standing a.at a.end a.depth a.count in
-    let few : a.count < most_avps = omega arith in
-    rw (broken_checked a.s.now w (dictionary_by a.table.now) few c.in-Broken.ensures)
+    content_passed a.table.now a.w.s.now (standing_of a.w) (omega arith) c.in_ok-a.ensures _ c.entry_by-entry.ensures
+    c.in_ok-content.ensures (omega (arith, c.entry_by-entry)) _ c.is_group-is_group.ensures
