@@ -1,5 +1,7 @@
 -- Laws of the search by first positions: the name of an entry leads back to its number.
 use mathlib.Core.Path.{◌≡◌, refl, sym, ◌∙◌}
+use Rattle.std.specs.Prelude.{Option, Some, None}
+use Rattle.std.specs.Bool.{then_some}
 use mathlib.Core.List.{List, [], ◌∷◌}
 use mathlib.Core.Bool.{Bool, true, false, ◌&&◌}
 use mathlib.Core.Logic.{⊎_elim}
@@ -9,8 +11,6 @@ use native.Mathlib.Omega.{arith}
 use lib.Dec.{T, eqb, eqb→eq, ltb}
 use lib.ListN.{length, get_or, get_or-eq_default}
 use borrow.Author.Tests.{lt-ltb, le-ltb, ltb-true, ltb-false}
-use Rattle.rules.specs.declared.Found.{Found}
-use Rattle.rules.specs.declared.Found.TheVariants.{At, Nothing}
 use Rattle.rules.specs.Walk.{most_avps}
 use Rattle.rules.specs.Dictionary.{dictionary}
 use Rattle.rules.proofs.Names.{both_hold}
@@ -73,13 +73,20 @@ module _ (firsts : List ℕ) (size : length firsts ≡ entries) (count entry i :
   of_name : get_or firsts (named_by entry) most_avps ≡ i
   of_name = by_name (ltb entry entries) refl
 
-  abbrev Answer : Found → Type 0
+  abbrev Answer : Option ℕ → Type 0
   Answer r = IsFoundAmong (find_in firsts count (vendor_of dictionary entry) (code_of dictionary entry)) count r
 
-  pub first_found_lem : i < count → Answer (At i)
+  first_found_lem : i < count → Answer (Some i)
   unfolding find_in
   first_found_lem h = found_at _ count i h (rw (of_name, lt-ltb i count h))
 
-  pub first_absent : count ≤ i → Answer Nothing
+  pub first_absent : count ≤ i → Answer None
   unfolding find_in
   first_absent h = found_nothing _ count (rw (of_name, le-ltb i count h))
+
+  by_test : (used : Bool) → ltb i count ≡ used → Answer (then_some used i)
+  by_test true h = first_found_lem (ltb-true i count h)
+  by_test false h = first_absent (ltb-false i count h)
+
+  pub first_if_used : Answer (then_some (ltb i count) i)
+  first_if_used = by_test (ltb i count) refl

@@ -1,4 +1,3 @@
 -- The laws that the proofs cite, by topic. They name no code.
 pub mod Searches
 pub mod Firsts
-pub mod Rules

@@ -1,58 +1,47 @@
 // 01, Exchange rules of an answer: its result, and its transfer policies.
-ghost use Rattle.std.specs.Prelude.{◌≡◌, ◌≤◌, min};
+#![tactic(auto, unfolding(rules::specs::Dictionary::dictionary, dictionary::specs::Entries::vendor_of, dictionary::specs::Entries::code_of, rules::specs::Exchange::result_outcome, rules::specs::Exchange::policies_outcome, rules::specs::Exchange::policy_in, rules::specs::Exchange::answer_outcome))]
+
+ghost use Rattle.std.specs.Prelude.{◌≡◌, min};
 ghost use Rattle.rules.specs.Verdict.{verdict_of, Answers};
 ghost use Rattle.rules.specs.Exchange.{result_outcome, policies_outcome, policy_in, answer_outcome};
 ghost use Rattle.rules.specs.Walk.{most_avps};
 ghost use Rattle.walk_log.specs.Log.{avps_in};
 ghost use Rattle.exchange.specs.Firsts.{find_in};
 
-use crate::search::{require, search};
+use crate::search::{List, Members};
 use avp::member_fault;
 use dictionary::kinds;
 use dictionary::kinds::{
     ExperimentalResult, PcrfAddress, RatingGroup, ReferenceId, ResultCode, TimeWindow,
 };
-use rules::{Found, Outcome, limits};
+use rules::Outcome;
 
 // Result-Code or Experimental-Result, and not both.
-fn result_outcome(
-    log: &[u32; limits::LOG_NUMBERS],
-    firsts: &[u16; kinds::ENTRIES],
-    count: usize,
-    end: u32,
-) -> Outcome
-    requires { count ≤ most_avps }
-    ensures { result ≡ result_outcome (find_in firsts.now count) (avps_in log.now count) end }
+fn result_outcome(list: List) -> Outcome
+    ensures { let m = list.entry.members in result ≡ result_outcome (find_in m.firsts.now m.count) (avps_in list.entry.log.now m.count) m.end }
 {
-    let Found::At(i) = search(firsts, count, ExperimentalResult::ENTRY) else {
-        return require(firsts, count, end, ResultCode::ENTRY);
+    let members = list.members;
+    let Some(i) = members.search(ExperimentalResult::ENTRY) else {
+        return members.require(ResultCode::ENTRY);
     };
-    let Found::At(_) = search(firsts, count, ResultCode::ENTRY) else {
-        return Outcome::Pass;
+    let Some(_) = members.search(ResultCode::ENTRY) else {
+        return Ok(());
     };
-    member_fault(5008, walk_log::get(log, i))
+    member_fault(5008, list.avp(i))
 }
 
 // With any policy a Reference-Id, with two or more a PCRF-Address; `number` is how many there are.
-fn policies_outcome(
-    firsts: &[u16; kinds::ENTRIES],
-    count: usize,
-    end: u32,
-    number: usize,
-) -> Outcome
-    ensures { result ≡ policies_outcome (find_in firsts.now count) end number }
+fn policies_outcome(members: Members, number: usize) -> Outcome
+    ensures { result ≡ policies_outcome (find_in members.entry.firsts.now members.entry.count) members.entry.end number }
 {
     if number < 1 {
-        return Outcome::Pass;
+        return Ok(());
     }
-    let reference = require(firsts, count, end, ReferenceId::ENTRY);
-    let Outcome::Pass = reference else {
-        return reference;
-    };
+    members.require(ReferenceId::ENTRY)?;
     if number < 2 {
-        return Outcome::Pass;
+        return Ok(());
     }
-    require(firsts, count, end, PcrfAddress::ENTRY)
+    members.require(PcrfAddress::ENTRY)
 }
 
 // A transfer policy by the first positions of its members: it ends at `end`, and holds a Time-Window and a
@@ -60,33 +49,16 @@ fn policies_outcome(
 pub fn policy_in(firsts: &[u16; kinds::ENTRIES], count: usize, end: u32) -> Outcome
     ensures { Answers verdict_of (policy_in (find_in firsts.now (min count most_avps)) end) result }
 {
-    let avps = walk_log::used(count);
-    let window = require(firsts, avps, end, TimeWindow::ENTRY);
-    let Outcome::Pass = window else {
-        return window;
-    };
-    require(firsts, avps, end, RatingGroup::ENTRY)
+    let members = Members::new(firsts, count, end);
+    members.require(TimeWindow::ENTRY)?;
+    members.require(RatingGroup::ENTRY)
 }
 
 // The rules of an answer; `number` is how many policies there are, `policies` what is said of each.
-pub(crate) fn answer_outcome(
-    log: &[u32; limits::LOG_NUMBERS],
-    firsts: &[u16; kinds::ENTRIES],
-    count: usize,
-    end: u32,
-    number: usize,
-    policies: Outcome,
-) -> Outcome
-    requires { count ≤ most_avps }
-    ensures { result ≡ answer_outcome (find_in firsts.now count) (avps_in log.now count) end number policies }
+pub(crate) fn answer_outcome(list: List, number: usize, policies: Outcome) -> Outcome
+    ensures { let m = list.entry.members in result ≡ answer_outcome (find_in m.firsts.now m.count) (avps_in list.entry.log.now m.count) m.end number policies }
 {
-    let result = result_outcome(log, firsts, count, end);
-    let Outcome::Pass = result else {
-        return result;
-    };
-    let asked = policies_outcome(firsts, count, end, number);
-    let Outcome::Pass = asked else {
-        return asked;
-    };
+    result_outcome(list)?;
+    policies_outcome(list.members, number)?;
     policies
 }

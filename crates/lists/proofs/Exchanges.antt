@@ -2,6 +2,7 @@
 -- rules ask for has an entry, by the first positions of entries a list and each group are searched as 01 searches them,
 -- and the policies are as many as the search tells.
 use mathlib.Core.Path.{◌≡◌, refl, sym, ap, ◌∙◌}
+use Rattle.std.specs.Prelude.{Option, Some, None}
 use mathlib.Core.Bool.{Bool, true, false, cond, and_comm}
 use mathlib.Core.List.{List, [], ◌∷◌}
 use Prim.Native.Nat.{ℕ, ◌+◌, ◌≤◌, ◌<◌}
@@ -14,11 +15,7 @@ use Rattle.rules.specs.declared.Avp.{Avp}
 use Rattle.rules.specs.declared.CommandRules.{CommandRules}
 use Rattle.rules.specs.declared.ExchangeRules.{ExchangeRules}
 use Rattle.rules.specs.declared.ExchangeRules.TheVariants.{OfRequest, OfAnswer, WindowsAlone}
-use Rattle.rules.specs.declared.Found.{Found}
-use Rattle.rules.specs.declared.Found.TheVariants.{At, Nothing}
-use Rattle.rules.specs.declared.Outcome.{Outcome}
-use Rattle.rules.specs.declared.Outcome.TheVariants.{Pass}
-use Rattle.rules.specs.Verdict.{or_else}
+use Rattle.rules.specs.Verdict.{or_else, Outcome, no_refusal}
 use Rattle.rules.specs.Avp.{named, end_of}
 use Rattle.rules.specs.Walk.{most_avps}
 use Rattle.rules.specs.Dictionary.{dictionary}
@@ -44,7 +41,7 @@ use Rattle.lists.proofs.Firsts.{first_positions, member_positions}
 
 -- ---- two searches that agree on the names of the dictionary: the rules say the same by either
 
-module _ (f g : ℕ → ℕ → Found) (same : (vendor code : ℕ) → IsKnown vendor code → f vendor code ≡ g vendor code) where
+module _ (f g : ℕ → ℕ → Option ℕ) (same : (vendor code : ℕ) → IsKnown vendor code → f vendor code ≡ g vendor code) where
   first_same : (xs : List Avp) (end : ℕ) → first_request f xs end ≡ first_request g xs end
   unfolding dictionary number_where first_request volume direction total_alone
   first_same xs end =
@@ -54,10 +51,10 @@ module _ (f g : ℕ → ℕ → Found) (same : (vendor code : ℕ) → IsKnown v
   unfolding dictionary number_where later_request
   later_same end = rw (same 10415 4202 tt, same 10415 4208 tt, same 0 293 tt)
 
-  request_by_lem : (xs : List Avp) (s : List ℕ) (end : ℕ) (type : Found)
+  request_by_lem : (xs : List Avp) (s : List ℕ) (end : ℕ) (type : Option ℕ)
       → request_by f xs s end type ≡ request_by g xs s end type
-  request_by_lem xs s end (At i) = rw (first_same xs end, later_same end)
-  request_by_lem xs s end Nothing = refl
+  request_by_lem xs s end (Some i) = rw (first_same xs end, later_same end)
+  request_by_lem xs s end None = refl
 
   request_same : (xs : List Avp) (s : List ℕ) (end : ℕ) → request_outcome f xs s end ≡ request_outcome g xs s end
   unfolding dictionary number_where request_outcome
@@ -87,13 +84,13 @@ module _ (f g : ℕ → ℕ → Found) (same : (vendor code : ℕ) → IsKnown v
 
 -- what is said of the AVP a at position i: of a policy of the command's own list its outcome
 abbrev policy_at : List Avp → ℕ → Avp → Outcome
-policy_at ys i a = cond (is_at a 1 10415 4207) (policy_outcome ys i) Pass
+policy_at ys i a = cond (is_at a 1 10415 4207) (policy_outcome ys i) no_refusal
 
 -- the policies from position i on
 abbrev policies_behind : List Avp → ℕ → List Avp → Outcome
 policies_behind ys i xs = policies_at ys (positions_from i 0 1 xs 10415 4207)
 
-policies_end : (ys : List Avp) (i : ℕ) → policies_behind ys i [] ≡ Pass
+policies_end : (ys : List Avp) (i : ℕ) → policies_behind ys i [] ≡ no_refusal
 unfolding policies_at
 policies_end ys i = rw (positions_none i 0 1 10415 4207)
 
@@ -105,7 +102,7 @@ policies_next ys i a xs =
     (one (is_at a 1 10415 4207) (positions_from (i + 1) 0 1 xs 10415 4207))
   where
     one : (own : Bool) (is : List ℕ)
-        → policies_at ys (with_position own i is) ≡ or_else (cond own (policy_outcome ys i) Pass) (policies_at ys is)
+        → policies_at ys (with_position own i is) ≡ or_else (cond own (policy_outcome ys i) no_refusal) (policies_at ys is)
     one true is = refl
     one false is = refl
 
@@ -146,8 +143,8 @@ module _ (ys : List Avp) (few : length ys ≤ most_avps) (at : ℕ → Logged) w
 
     -- as a policy it stands at depth 1, and its members at 2
     policy_by : (own : Bool) (end : ℕ) → is_at a 1 10415 4207 ≡ own
-        → cond own (policy_in (find_in (firsts_at at (length ys) i) (length ys)) end) Pass
-        ≡ cond own (policy_in (member ys i 2) end) Pass
+        → cond own (policy_in (find_in (firsts_at at (length ys) i) (length ys)) end) no_refusal
+        ≡ cond own (policy_in (member ys i 2) end) no_refusal
     policy_by true end e =
         let d : a.depth ≡ 1 = eqb-true a.depth 1 (and_true (eqb a.depth 1) (named a 10415 4207) e).0 in
         policy_same _ (member ys i 2) (rw d at group_finds) end

@@ -1,6 +1,7 @@
 -- What the entry of a name leads to: no other name, the row and the members that the name has, and by first positions
 -- what a search for the name finds.
 use mathlib.Core.Path.{◌≡◌, refl, sym, ap, ◌∙◌}
+use Rattle.std.specs.Prelude.{Option, Some, None}
 use mathlib.Core.Bool.{Bool, true, false, cond, ◌&&◌}
 use mathlib.Core.List.{List, [], ◌∷◌}
 use Prim.Native.Nat.{ℕ, suc, ◌+◌, ◌≤◌, ◌<◌}
@@ -9,18 +10,16 @@ use borrow.Author.Tests.{lt-ltb, le-ltb, eq-eqb, ne_eqb, eqb-true}
 use lib.Dec.{T, eqb, ltb, ltb→lt}
 use lib.ListN.{length, get_or}
 use Rattle.rules.specs.declared.Avp.{Avp}
-use Rattle.rules.specs.declared.Found.{Found}
-use Rattle.rules.specs.declared.Found.TheVariants.{At, Nothing}
 use Rattle.rules.specs.declared.Admission.{Admission}
-use Rattle.rules.specs.declared.Admission.TheVariants.{ByRow, NoRow}
 use Rattle.rules.specs.declared.Grammar.{Grammar}
 use Rattle.rules.specs.declared.Grammar.TheVariants.{Request, Answer, ErrorAnswer, VendorSpecificApplicationId, ExperimentalResult}
 use Rattle.rules.specs.declared.Grammar.TheVariants.{ProxyInfo, SupportedFeatures, TimeWindow, TransferPolicy}
 use Rattle.rules.specs.Rows.{Row, rows_of}
 use Rattle.rules.specs.Walk.{most_avps}
 use Rattle.rules.specs.Search.{is_at, first_from, position_of}
-use Rattle.rules.specs.Dictionary.{Entry, dictionary, find, is_known, members_of}
-use Rattle.rules.specs.RowChecks.{admission_from, admission}
+use Rattle.rules.specs.declared.Entry.{Entry}
+use Rattle.rules.specs.Dictionary.{dictionary, find, is_known, members_of}
+use Rattle.rules.specs.RowChecks.{admission_from, admission, by_row}
 use Rattle.rules.proofs.Names.{both_hold}
 use Rattle.rules.proofs.Tests.{and_true}
 use Rattle.rules.proofs.Searches.{first_none, first_next}
@@ -116,21 +115,21 @@ all_known es (r ∷ rs) = is_known (find es r.vendor r.code) && all_known es rs
 
 -- a name that no entry has has no row
 module _ (es : List Entry) (vendor code : ℕ) (unknown : is_known (find es vendor code) ≡ false) where
-  no_row_next : (r : Row) (row later : Admission) (b : Bool) → (eqb vendor r.vendor && eqb code r.code) ≡ b
-      → T (is_known (find es r.vendor r.code)) → NoRow ≡ later → NoRow ≡ cond b row later
+  no_row_next : (r : Row) (row later : Option Admission) (b : Bool) → (eqb vendor r.vendor && eqb code r.code) ≡ b
+      → T (is_known (find es r.vendor r.code)) → None ≡ later → None ≡ cond b row later
   no_row_next r row later true named t h =
       let same = and_true (eqb vendor r.vendor) (eqb code r.code) named in
       let not_known = rw (eqb-true vendor r.vendor same.0, eqb-true code r.code same.1) at unknown in
       absurd (rw not_known at t)
   no_row_next r row later false named t h = h
 
-  no_row : (rs : List Row) (i : ℕ) → T (all_known es rs) → NoRow ≡ admission_from i rs vendor code
+  no_row : (rs : List Row) (i : ℕ) → T (all_known es rs) → None ≡ admission_from i rs vendor code
   unfolding admission_from
   no_row [] i t = refl
   no_row (r ∷ rs) i t =
       let both = both_hold (is_known (find es r.vendor r.code)) (all_known es rs) t in
       let later = no_row rs (i + 1) both.1 in
-      no_row_next r (ByRow i r.mark) (admission_from (i + 1) rs vendor code) _ refl both.0 later
+      no_row_next r (by_row i r.mark) (admission_from (i + 1) rs vendor code) _ refl both.0 later
 
 -- computed: each row of each list names an entry of the dictionary
 rows_known : (g : Grammar) → T (all_known dictionary (rows_of g))
@@ -150,7 +149,7 @@ pub row_by_entry : (g : Grammar) (vendor code : ℕ)
     → admission_at g (entry_of dictionary vendor code) ≡ admission g vendor code
 unfolding admission_at
 row_by_entry g vendor code =
-    said_by_name NoRow (admission g) vendor code dictionary
+    said_by_name None (admission g) vendor code dictionary
     (λ h. no_row dictionary vendor code (rw (found_is dictionary vendor code) at h) (rows_of g) 0 (rows_known g))
 
 -- the members by the entry of a name are those that the dictionary says of it
@@ -161,17 +160,17 @@ members_by_entry vendor code = ap members_of (found_is dictionary vendor code)
 -- ---- a search by first positions
 
 -- what a search found, where it found anything, stands from position i on, before position `stop`
-abbrev pub Among : ℕ → ℕ → Found → Type 0
-Among i stop (At k) = (i ≤ k) × (k < stop)
-Among i stop Nothing = Unit {0}
+abbrev pub Among : ℕ → ℕ → Option ℕ → Type 0
+Among i stop (Some k) = (i ≤ k) × (k < stop)
+Among i stop None = Unit {0}
 
 -- the same with an AVP at position i before the others
-among_next : (i n : ℕ) (above own : Bool) (found : Found) → Among (i + 1) (i + 1 + n) found
-    → Among i (i + suc n) (cond above Nothing (cond own (At i) found))
+among_next : (i n : ℕ) (above own : Bool) (found : Option ℕ) → Among (i + 1) (i + 1 + n) found
+    → Among i (i + suc n) (cond above None (cond own (Some i) found))
 among_next i n true own found later = tt
 among_next i n false true found later = (omega arith, omega arith)
-among_next i n false false (At k) later = (omega (arith, later.0), omega (arith, later.1))
-among_next i n false false Nothing later = tt
+among_next i n false false (Some k) later = (omega (arith, later.0), omega (arith, later.1))
+among_next i n false false None later = tt
 
 pub first_among : (vendor code : ℕ) (xs : List Avp) (i floor depth : ℕ)
     → Among i (i + length xs) (first_from i floor depth xs vendor code)
@@ -182,12 +181,12 @@ first_among vendor code (a ∷ xs) i floor depth =
     (first_among vendor code xs (i + 1) floor depth))
 
 -- as a number: no position before i, and at most that for none
-abbrev Within : ℕ → Found → Type 0
+abbrev Within : ℕ → Option ℕ → Type 0
 Within i found = (i ≤ position_of found) × (position_of found ≤ most_avps)
 
-among_within : (i stop : ℕ) (found : Found) → i ≤ most_avps → stop ≤ most_avps → Among i stop found → Within i found
-among_within i stop (At k) from few h = (h.0, omega (arith, h.1))
-among_within i stop Nothing from few h = (from, omega arith)
+among_within : (i stop : ℕ) (found : Option ℕ) → i ≤ most_avps → stop ≤ most_avps → Among i stop found → Within i found
+among_within i stop (Some k) from few h = (h.0, omega (arith, h.1))
+among_within i stop None from few h = (from, omega arith)
 
 pub first_within : (vendor code : ℕ) (xs : List Avp) (i floor depth : ℕ) → i + length xs ≤ most_avps
     → Within i (first_from i floor depth xs vendor code)
@@ -201,12 +200,12 @@ IsKnown vendor code = T (ltb (entry_of dictionary vendor code) (length dictionar
 
 module _ (i count : ℕ) (few : count ≤ most_avps) where
   -- from the number, what was found
-  found_below_lem : (found : Found) → Among i count found → found_below count (position_of found) ≡ found
-  found_below_lem (At k) h = rw (lt-ltb k count h.1)
-  found_below_lem Nothing h = rw (le-ltb most_avps count few)
+  found_below_lem : (found : Option ℕ) → Among i count found → found_below count (position_of found) ≡ found
+  found_below_lem (Some k) h = rw (lt-ltb k count h.1)
+  found_below_lem None h = rw (le-ltb most_avps count few)
 
   -- a search by positions that are those of another search, for the names of the dictionary, finds the same
-  pub find_same : (found : ℕ → ℕ → Found) → ((vendor code : ℕ) → Among i count (found vendor code)) → (firsts : List ℕ)
+  pub find_same : (found : ℕ → ℕ → Option ℕ) → ((vendor code : ℕ) → Among i count (found vendor code)) → (firsts : List ℕ)
       → ((vendor code : ℕ) → entry_of dictionary vendor code < length dictionary
       → get_or firsts (entry_of dictionary vendor code) most_avps ≡ position_of (found vendor code))
       → (vendor code : ℕ) → IsKnown vendor code → find_in firsts count vendor code ≡ found vendor code

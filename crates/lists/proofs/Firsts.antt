@@ -1,6 +1,7 @@
 -- The first positions by entry that are kept while the members of a list are judged, of the command's own list or of a
 -- group: for the entry of a name they are what a search for the name among the members gives.
 use mathlib.Core.Path.{◌≡◌, refl, sym, ap, ◌∙◌}
+use Rattle.std.specs.Prelude.{Option, Some, None}
 use mathlib.Core.Bool.{Bool, true, false, cond}
 use mathlib.Core.List.{List, [], ◌∷◌, ◌++◌, append_assoc, append-nil}
 use Prim.Native.Nat.{ℕ, zero, suc, ◌+◌, ◌-◌, ◌≤◌, ◌<◌, min}
@@ -11,8 +12,6 @@ use lib.Dec.{eqb, ltb}
 use lib.ListN.{length, get_or, length-append, length-replicate, get_or-replicate, set}
 use lib.Seq.{get_or-set_same, get_or-set_other}
 use Rattle.rules.specs.declared.Avp.{Avp}
-use Rattle.rules.specs.declared.Found.{Found}
-use Rattle.rules.specs.declared.Found.TheVariants.{At, Nothing}
 use Rattle.rules.specs.Avp.{named}
 use Rattle.rules.specs.Walk.{most_avps}
 use Rattle.rules.specs.Search.{is_at, first_from, first, member, position_of}
@@ -50,7 +49,7 @@ module _ (vendor code floor depth : ℕ) (deep : floor ≤ depth) where
   -- an AVP of the list, or else those of the rest of the list
   first_family : (a : Avp) (members rest : Forest) (i : ℕ) (xs : List Avp) → Placed depth (family a members rest)
       → first_from i floor depth (flat (family a members rest) ++ xs) vendor code
-      ≡ cond (named a vendor code) (At i)
+      ≡ cond (named a vendor code) (Some i)
       (first_from (i + 1 + length (flat members)) floor depth (flat rest ++ xs) vendor code)
   first_family a members rest i xs p =
       let in_members = first_deeper members (depth + 1) (i + 1) (flat rest ++ xs) (omega arith) p.1 in
@@ -64,7 +63,7 @@ module _ (vendor code floor depth : ℕ) (deep : floor ≤ depth) where
 
 -- a list ends before an AVP above it
 first_end : (vendor code above i : ℕ) (xs : List Avp) → Level above xs
-    → first_from i (above + 1) (above + 1) xs vendor code ≡ Nothing
+    → first_from i (above + 1) (above + 1) xs vendor code ≡ None
 first_end vendor code above i [] e = first_none i (above + 1) (above + 1) vendor code
 first_end vendor code above i (a ∷ xs) e = first_above i (above + 1) (above + 1) a xs vendor code (omega (arith, e))
 
@@ -91,8 +90,8 @@ noted_few true before i h = omega arith
 noted_few false before i h = h
 
 -- a member at position i, then what a search finds behind it
-first_of : (own : Bool) (found : Found) (before i : ℕ) → i ≤ position_of found
-    → min (cond own (min before i) before) (position_of found) ≡ min before (position_of (cond own (At i) found))
+first_of : (own : Bool) (found : Option ℕ) (before i : ℕ) → i ≤ position_of found
+    → min (cond own (min before i) before) (position_of found) ≡ min before (position_of (cond own (Some i) found))
 first_of true found before i h = omega arith
 first_of false found before i h = refl
 
@@ -104,7 +103,7 @@ module _ (at : ℕ → Logged) (vendor code other : ℕ) (known : entry_of dicti
 
   -- a list before position `stop`, behind which a search finds nothing
   module _ (above floor : ℕ) (deep : floor ≤ above + 1) (xs : List Avp) (level : Level above xs) (stop : ℕ)
-      (end : first_from stop floor (above + 1) xs vendor code ≡ Nothing) (few : stop + length xs ≤ most_avps) where
+      (end : first_from stop floor (above + 1) xs vendor code ≡ None) (few : stop + length xs ≤ most_avps) where
     -- from position i on, in steps that are enough: the lesser of the first position so far and the position that a
     -- search from i on gives
     firsts_by : (f : Forest) (i n : ℕ) (firsts : List ℕ) → Placed (above + 1) f
@@ -124,7 +123,7 @@ module _ (at : ℕ → Logged) (vendor code other : ℕ) (known : entry_of dicti
         let met : ℕ = entry_of dictionary a.vendor a.code in
         let same = known_only dictionary vendor code known a.vendor a.code in
         let before : ℕ = get_or firsts own other in
-        let found : Found = first_from next floor (above + 1) (flat rest ++ xs) vendor code in
+        let found : Option ℕ = first_from next floor (above + 1) (flat rest ++ xs) vendor code in
         let now = noted_place firsts met own i other (named a vendor code) same place known in
         let in_rest =
         firsts_by rest next n (noted firsts met i) p.2 here.behind (omega arith) (omega arith)

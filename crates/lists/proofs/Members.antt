@@ -1,6 +1,7 @@
 -- Laws of the checks by the numbers of a log: the members of a list one by one, what is said at one position after
 -- another, how many policies there are, and that what is no group is neither policy nor window.
 use mathlib.Core.Path.{◌≡◌, refl, sym, ap, ◌∙◌}
+use Rattle.std.specs.Prelude.{Some, None, Ok, Err, Option, Result}
 use mathlib.Core.List.{List, [], ◌∷◌}
 use mathlib.Core.Bool.{Bool, true, false, cond}
 use Prim.Native.Nat.{ℕ, zero, suc, ◌+◌, ◌-◌, ◌≤◌, ◌<◌}
@@ -13,15 +14,11 @@ use Rattle.rules.specs.declared.Avp.{Avp}
 use Rattle.rules.specs.declared.CommandRules.{CommandRules}
 use Rattle.rules.specs.declared.Grammar.{Grammar}
 use Rattle.rules.specs.declared.Grammar.TheVariants.{TimeWindow, TransferPolicy}
-use Rattle.rules.specs.declared.Members.TheVariants.{Under, NoMembers}
 use Rattle.rules.specs.declared.Verdict.{Verdict}
-use Rattle.rules.specs.declared.Outcome.{Outcome}
-use Rattle.rules.specs.declared.Outcome.TheVariants.{Pass, Refused}
 use Rattle.rules.specs.declared.Mark.{Mark}
 use Rattle.rules.specs.declared.Mark.TheVariants.{First, FirstIfPresent, Once, AtMostOnce, AnyNumber}
 use Rattle.rules.specs.declared.Admission.{Admission}
-use Rattle.rules.specs.declared.Admission.TheVariants.{ByRow, NoRow}
-use Rattle.rules.specs.Verdict.{or_else}
+use Rattle.rules.specs.Verdict.{or_else, Outcome, no_refusal}
 use Rattle.rules.specs.Header.{vendor_3gpp}
 use Rattle.rules.specs.Rows.{admits_others}
 use Rattle.rules.specs.Dictionary.{dictionary, members_of}
@@ -31,10 +28,11 @@ use Rattle.rules.proofs.Outcomes.{refused_first, or_pass, or_assoc}
 use Rattle.dictionary.specs.Entries.{number_where, entry_of, definition_at}
 use Rattle.walk_log.specs.Log.{Logged}
 use Rattle.exchange.specs.Firsts.{find_in}
+use Rattle.exchange.specs.declared.Groups.{Groups}
 use Rattle.lists.specs.ByLog.{admission_at, logged_members, members_by, list_by, group_at, first_fault, rows_by}
-use Rattle.lists.specs.Firsts.{no_firsts, firsts_from}
+use Rattle.lists.specs.Firsts.{no_firsts, firsts_from, passed_with}
 use Rattle.lists.specs.Tables.{mark_of_member, for_member}
-use Rattle.lists.specs.Exchanges.{is_policy, policy_number_from, policy_logged, window_logged, lists_by}
+use Rattle.lists.specs.Exchanges.{is_policy, policy_number_from, policy_logged, window_logged, groups_in, lists_by}
 
 -- what is left of a list from position i on, with the counts so far
 abbrev pub left_by : (ℕ → Logged) → ℕ → Grammar → ℕ → List ℕ → Bool → ℕ → Outcome
@@ -49,14 +47,14 @@ mark_alike Once met first a = refl
 mark_alike AtMostOnce met first a = refl
 mark_alike AnyNumber met first a = refl
 
-member_alike : (others : Bool) (counts : List ℕ) (first : Bool) (a : Avp) (m : Admission)
+member_alike : (others : Bool) (counts : List ℕ) (first : Bool) (a : Avp) (m : Option Admission)
     → by_admission others counts first a (for_member m) ≡ by_admission others counts first a m
-member_alike others counts first a (ByRow row mark) = mark_alike mark (ltb 0 (get_or counts row 0)) first a
-member_alike others counts first a NoRow = refl
+member_alike others counts first a (Some by) = mark_alike by.mark (ltb 0 (get_or counts by.row 0)) first a
+member_alike others counts first a None = refl
 
-counted_alike : (counts : List ℕ) (m : Admission) → counted counts (for_member m) ≡ counted counts m
-counted_alike counts (ByRow row mark) = refl
-counted_alike counts NoRow = refl
+counted_alike : (counts : List ℕ) (m : Option Admission) → counted counts (for_member m) ≡ counted counts m
+counted_alike counts (Some a) = refl
+counted_alike counts None = refl
 
 module _ (at : ℕ → Logged) where
   -- ---- the members of a list
@@ -100,7 +98,7 @@ module _ (at : ℕ → Logged) where
 
       module _ (g : Grammar) (end : ℕ) (counts : List ℕ) (first : Bool) (i : ℕ) where
         -- the member at the position, with the row that names it and what that says of a member
-        pub members_next : i < stop → (l : Logged) (m : Admission) (o : Outcome) → l ≡ at i → m ≡ for_member (admission_at g l.entry)
+        pub members_next : i < stop → (l : Logged) (m : Option Admission) (o : Outcome) → l ≡ at i → m ≡ for_member (admission_at g l.entry)
             → o ≡ by_admission (admits_others g) counts first l.avp m
             → left_by at stop g end counts first i ≡ or_else o (left_by at stop g end (counted counts m) false l.after)
         unfolding members_by
@@ -126,7 +124,7 @@ module _ (said : ℕ → Outcome) (count : ℕ) where
   abbrev pub Reached : Outcome → ℕ → Type 0
   Reached o i = or_else o (first_fault said (count - i) i) ≡ first_fault said count 0
 
-  pub reached_none : Reached Pass 0
+  pub reached_none : Reached no_refusal 0
   reached_none = rw (sub-zero count)
 
   -- with what is said at the position
@@ -137,8 +135,8 @@ module _ (said : ℕ → Outcome) (count : ℕ) where
       or_assoc o p _ ∙ rw e (rw n at r)
 
   -- where nothing is said there
-  pub reached_pass : (o : Outcome) (i : ℕ) → Reached o i → i < count → Pass ≡ said i → Reached o (i + 1)
-  reached_pass o i r h e = rw (or_pass o) at (reached_next o Pass i r h e)
+  pub reached_pass : (o : Outcome) (i : ℕ) → Reached o i → i < count → no_refusal ≡ said i → Reached o (i + 1)
+  reached_pass o i r h e = rw (or_pass o) at (reached_next o no_refusal i r h e)
 
   pub reached_all : (o : Outcome) (i : ℕ) → Reached o i → count ≤ i → o ≡ first_fault said count 0
   unfolding first_fault
@@ -147,7 +145,7 @@ module _ (said : ℕ → Outcome) (count : ℕ) where
       sym (or_pass o) ∙ (rw n at r)
 
   -- a fault is the answer, whatever is said behind it
-  pub reached_fault : (o : Outcome) {v : Verdict} (i : ℕ) → Reached o i → o ≡ Refused v → o ≡ first_fault said count 0
+  pub reached_fault : (o : Outcome) {v : Verdict} (i : ℕ) → Reached o i → o ≡ Err v → o ≡ first_fault said count 0
   reached_fault o i r e = sym (refused_first o _ e) ∙ r
 
 -- ---- the policies before `count`
@@ -186,45 +184,72 @@ module _ (at : ℕ → Logged) (count : ℕ) where
 
 -- ---- AVPs that are no group
 
-module _ (at : ℕ → Logged) (count i : ℕ) (none : members_of (definition_at dictionary (at i).entry) ≡ NoMembers) where
+module _ (at : ℕ → Logged) (count i : ℕ) (none : members_of (definition_at dictionary (at i).entry) ≡ None) where
   -- have no entry of a group
-  no_entry_lem : (n : ℕ) (g : Grammar) → members_of (definition_at dictionary n) ≡ Under g → eqb (at i).entry n ≡ false
+  no_entry_lem : (n : ℕ) (g : Grammar) → members_of (definition_at dictionary n) ≡ Some g → eqb (at i).entry n ≡ false
   no_entry_lem n g group =
       ne_eqb (at i).entry n (λ same.
       let denied = sym none ∙ ap (λ (k : ℕ). members_of (definition_at dictionary k)) same ∙ group in
       let z : ◌≡◌ {A = ℕ} 0 1 = cc in absurd (omega arith))
 
-  pub no_rows : Pass ≡ group_at at count i
+  pub no_rows : no_refusal ≡ group_at at count i
   no_rows = rw none
 
   pub not_policy : is_policy (at i) ≡ false
   unfolding dictionary number_where definition_at
   not_policy = rw (no_entry_lem (entry_of dictionary vendor_3gpp 4207) TransferPolicy refl)
 
-  pub no_policy : Pass ≡ policy_logged at count i
+  pub no_policy : no_refusal ≡ policy_logged at count i
   unfolding policy_logged
   no_policy = rw not_policy
 
-  pub no_window : (xs : List Avp) (s : List ℕ) → Pass ≡ window_logged at xs s count i
+  pub no_window : (xs : List Avp) (s : List ℕ) → no_refusal ≡ window_logged at xs s count i
   unfolding dictionary number_where definition_at window_logged
   no_window xs s = rw (no_entry_lem (entry_of dictionary vendor_3gpp 4204) TimeWindow refl)
 
+-- ---- what judging a list gives, and the groups
+
+module _ {A : Type 0} where
+  pub passed_refused : (o : Outcome) (a : A) (v : Verdict) → passed_with o a ≡ Err v → o ≡ Err v
+  passed_refused (Ok u) a v e = let z : ◌≡◌ {A = ℕ} 0 1 = cc in absurd (omega arith)
+  passed_refused (Err w) a v e = let same : w ≡ v = cc in rw same
+
+  pub passed_all : (o : Outcome) (a b : A) → passed_with o a ≡ Ok b → (o ≡ no_refusal) × (a ≡ b)
+  passed_all (Ok u) a b e = (refl, cc)
+  passed_all (Err w) a b e = let z : ◌≡◌ {A = ℕ} 0 1 = cc in absurd (omega arith)
+
+module _ (at : ℕ → Logged) (xs : List Avp) (s : List ℕ) (count : ℕ) where
+  abbrev rows_of_groups : Outcome
+  rows_of_groups = first_fault (group_at at count) count 0
+
+  pub groups_refused : (r : Result Groups Verdict) (v : Verdict) → rows_of_groups ≡ Err v → r ≡ Err v → r ≡ groups_in at xs s count
+  groups_refused r v e is = rw e is
+
+  pub groups_passed : (g : Groups) → rows_of_groups ≡ no_refusal → g.number ≡ policy_number_from at count 0
+      → g.policies ≡ first_fault (policy_logged at count) count 0
+      → g.windows ≡ first_fault (window_logged at xs s count) count 0
+      → Ok g ≡ groups_in at xs s count
+  groups_passed g e number policies windows = rw (e, ← number, ← policies, ← windows)
+
 -- ---- the command's list, then the groups, then the exchange rules
 
-module _ (at : ℕ → Logged) (xs : List Avp) (rules : CommandRules) (s : List ℕ) (end count : ℕ) (own : Outcome)
-    (is : own ≡ list_by at rules.rows end 0 count) where
-  pub own_refused : {v : Verdict} → own ≡ Refused v → own ≡ lists_by at xs rules s end count
+module _ (at : ℕ → Logged) (xs : List Avp) (rules : CommandRules) (s : List ℕ) (end count : ℕ) where
+  abbrev own : Outcome
+  own = list_by at rules.rows end 0 count
+
+  pub own_refused : (v : Verdict) → own ≡ Err v → Err v ≡ lists_by at xs rules s end count
   unfolding lists_by rows_by
-  own_refused e = rw (sym is ∙ e) e
+  own_refused v e = rw e
 
-  module _ (passed : own ≡ Pass) (groups : Outcome) (all : groups ≡ first_fault (group_at at count) count 0) where
-    pub group_refused : {v : Verdict} → groups ≡ Refused v → groups ≡ lists_by at xs rules s end count
+  module _ (passed : own ≡ no_refusal) (groups : Result Groups Verdict) (all : groups ≡ groups_in at xs s count) where
+    pub group_refused : (v : Verdict) → groups ≡ Err v → Err v ≡ lists_by at xs rules s end count
     unfolding lists_by rows_by
-    group_refused e = rw (sym is ∙ passed, sym all ∙ e) e
+    group_refused v e = rw (passed, passed_refused _ _ v (sym all ∙ e))
 
-    pub rows_passed : groups ≡ Pass
-        → exchange_by (find_in (firsts_from count at 0 count no_firsts) count) rules.exchange xs s end
-        (policy_number_from at count 0) (first_fault (policy_logged at count) count 0) (first_fault (window_logged at xs s count) count 0)
+    pub rows_passed : (g : Groups) → groups ≡ Ok g
+        → exchange_by (find_in (firsts_from count at 0 count no_firsts) count) rules.exchange xs s end g.number g.policies g.windows
         ≡ lists_by at xs rules s end count
     unfolding lists_by rows_by
-    rows_passed e = rw (sym is ∙ passed, sym all ∙ e)
+    rows_passed g e =
+        let both = passed_all _ _ g (sym all ∙ e) in
+        rw (passed, both.0, ← both.1)

@@ -1,6 +1,7 @@
 -- Laws of the tables of rows: the rule of each, by one equation that is computed over all places of all lists; what a
 -- number says; and the search for the first missing row.
 use mathlib.Core.Path.{◌≡◌, refl, sym, ap, ◌∙◌}
+use Rattle.std.specs.Prelude.{Option, None, Some}
 use mathlib.Core.List.{List, [], ◌∷◌, map}
 use mathlib.Core.Bool.{Bool, true, false, cond, ◌&&◌}
 use mathlib.Core.Logic.{⊎_elim}
@@ -12,16 +13,11 @@ use lib.Dec.{eqb, leb, ltb}
 use lib.ListN.{length, get_or}
 use Rattle.rules.specs.declared.Grammar.{Grammar}
 use Rattle.rules.specs.declared.Mark.{Mark}
-use Rattle.rules.specs.declared.Mark.TheVariants.{AnyNumber}
 use Rattle.rules.specs.declared.Admission.{Admission}
-use Rattle.rules.specs.declared.Admission.TheVariants.{ByRow, NoRow}
-use Rattle.rules.specs.declared.Outcome.{Outcome}
-use Rattle.rules.specs.declared.Outcome.TheVariants.{Pass}
-use Rattle.rules.specs.Verdict.{refused, refuse_if}
+use Rattle.rules.specs.Verdict.{refused, refuse_if, Outcome, no_refusal}
 use Rattle.rules.specs.Rows.{Row, rows_of}
 use Rattle.rules.specs.Dictionary.{dictionary}
-use Rattle.rules.specs.RowChecks.{missing_from, missing}
-use Rattle.rules.proofs.Names.{Absent}
+use Rattle.rules.specs.RowChecks.{missing_from, missing, by_row}
 use Rattle.dictionary.proofs.Entries.{said_behind}
 use Rattle.dictionary.specs.Entries.{vendor_of, code_of}
 use Rattle.lists.specs.ByLog.{admission_at}
@@ -43,14 +39,14 @@ same_below (suc n) f g e k h =
 -- ---- the rules
 
 -- what a table says of an entry in the n-th list, and what it is to say
-abbrev pub said_by : List ℕ → ℕ → ℕ → Admission
+abbrev pub said_by : List ℕ → ℕ → ℕ → Option Admission
 said_by table n entry = admission_in (get_or table (n * entry_places + entry) 0)
 
-abbrev pub wanted : ℕ → ℕ → Admission
+abbrev pub wanted : ℕ → ℕ → Option Admission
 wanted n entry = for_member (admission_at (list_at n) entry)
 
 -- of all entries
-abbrev pub of_all : (ℕ → ℕ → Admission) → ℕ → List Admission
+abbrev pub of_all : (ℕ → ℕ → Option Admission) → ℕ → List (Option Admission)
 of_all says n = values_below entry_places (says n)
 
 pub admission_rule : (table : List ℕ) → values_below (length lists) (of_all (said_by table)) ≡ values_below (length lists) (of_all wanted)
@@ -76,23 +72,20 @@ row_rule table e = record {
 
 -- ---- what a number says
 
--- the arm `_` of a `match` on a mark's number
-pub mark_other : (n : ℕ) → Absent (2 ∷ 1 ∷ 0 ∷ []) n → AnyNumber ≡ mark_at n
-mark_other zero h = absurd (h.0.0.1 refl)
-mark_other (suc zero) h = absurd (h.0.1 refl)
-mark_other (suc (suc zero)) h = absurd (h.1 refl)
-mark_other (suc (suc (suc n))) h = refl
+abbrev row_or : Option Admission → ℕ
+row_or (Some a) = a.row
+row_or None = 0
 
 row_below : (number row : ℕ) (mark : Mark) (none : Bool) → leb row_places (number % 32) ≡ none
-    → cond none NoRow (ByRow (number % 32) (mark_at (number / 32))) ≡ ByRow row mark → row < row_places
+    → cond none None (by_row (number % 32) (mark_at (number / 32))) ≡ by_row row mark → row < row_places
 row_below number row mark true h e = let z : ◌≡◌ {A = ℕ} 0 1 = cc in absurd (omega arith)
 row_below number row mark false h e =
-    let p : number % 32 ≡ row = cc in
+    let p : number % 32 ≡ row = ap row_or e in
     let l = leb-false row_places (number % 32) h in
     omega arith
 
 -- a lookup in the table, and of a number that is no entry's
-pub admits_by : (table : List ℕ) → AdmissionTable table → (g : Grammar) (n entry : ℕ) (r : Admission) → ListAt g n → entry < entry_places
+pub admits_by : (table : List ℕ) → AdmissionTable table → (g : Grammar) (n entry : ℕ) (r : Option Admission) → ListAt g n → entry < entry_places
     → r ≡ said_by table n entry → Admits g entry r
 unfolding admission_in
 admits_by table is g n entry r at h e = record {
@@ -100,10 +93,10 @@ admits_by table is g n entry r at h e = record {
   below = λ row mark p. row_below (get_or table (n * entry_places + entry) 0) row mark _ refl (sym e ∙ p);
 }
 
-pub admits_none : (g : Grammar) (entry : ℕ) → entry_places ≤ entry → Admits g entry NoRow
+pub admits_none : (g : Grammar) (entry : ℕ) → entry_places ≤ entry → Admits g entry None
 unfolding admission_at
 admits_none g entry h = record {
-  is = ap for_member (sym (said_behind NoRow _ dictionary entry h));
+  is = ap for_member (sym (said_behind None _ dictionary entry h));
   below = λ row mark p. let z : ◌≡◌ {A = ℕ} 0 1 = cc in absurd (omega arith);
 }
 
@@ -133,7 +126,7 @@ module _ (table counts : List ℕ) (end place : ℕ) where
       let p : place + (k + 1) ≡ place + k + 1 = omega arith in
       rw (e, p)
 
-  pub missing_end : (k : ℕ) → k < row_places → number k ≡ end_of_rows → missing_in k ≡ Pass
+  pub missing_end : (k : ℕ) → k < row_places → number k ≡ end_of_rows → missing_in k ≡ no_refusal
   unfolding missing_among
   missing_end k h e = rw (rows_next k h, eq-eqb (number k) end_of_rows e)
 
@@ -145,7 +138,7 @@ module _ (table counts : List ℕ) (end place : ℕ) where
   unfolding missing_among requirement_in
   missing_next k h d here e = rw (rows_next k h, ne_eqb (number k) end_of_rows d, e)
 
-  pub missing_past : (k : ℕ) → row_places ≤ k → missing_in k ≡ Pass
+  pub missing_past : (k : ℕ) → row_places ≤ k → missing_in k ≡ no_refusal
   unfolding missing_among requirements_from
   missing_past k h =
       let e : row_places - k ≡ 0 = omega arith in

@@ -1,6 +1,7 @@
 -- The row checks by the log of a walk say what document 01 says of its AVPs: the AVPs of a list by the positions after
 -- last descendants are those at its depth, and what is said at each position is said of the AVP there.
 use mathlib.Core.Path.{◌≡◌, refl, sym, ap, ◌∙◌}
+use Rattle.std.specs.Prelude.{Option, Some, None}
 use mathlib.Core.Bool.{Bool, true, false}
 use mathlib.Core.List.{List, [], ◌∷◌, ◌++◌, append_assoc, append-nil}
 use Prim.Native.Nat.{ℕ, zero, suc, ◌+◌, ◌-◌, ◌≤◌, ◌<◌, min}
@@ -10,12 +11,8 @@ use borrow.Author.Tests.{lt-ltb, le-ltb, eq-eqb, ne_eqb}
 use lib.ListN.{length, get_or, drop, length-append, length-drop}
 use lib.Seq.{get_or-drop, drop-drop, drop-append_seam}
 use Rattle.rules.specs.declared.Avp.{Avp}
-use Rattle.rules.specs.declared.Members.{Members}
-use Rattle.rules.specs.declared.Members.TheVariants.{Under, NoMembers}
 use Rattle.rules.specs.declared.Grammar.{Grammar}
-use Rattle.rules.specs.declared.Outcome.{Outcome}
-use Rattle.rules.specs.declared.Outcome.TheVariants.{Pass}
-use Rattle.rules.specs.Verdict.{or_else}
+use Rattle.rules.specs.Verdict.{or_else, Outcome, no_refusal}
 use Rattle.rules.specs.Avp.{end_of}
 use Rattle.rules.specs.Search.{blank, avp_in}
 use Rattle.rules.specs.Dictionary.{dictionary, find, defined, members_of}
@@ -102,7 +99,7 @@ module _ (entry : ℕ → ℕ → ℕ) (at : ℕ → Logged) (ys : List Avp) whe
 
   -- what is said of each AVP with those after it, the first at position i
   module _ (said : ℕ → Outcome) (own : ℕ → Avp → List Avp → Outcome) (each : ℕ → List Avp → Outcome)
-      (end : (i : ℕ) → each i [] ≡ Pass)
+      (end : (i : ℕ) → each i [] ≡ no_refusal)
       (next : (i : ℕ) (a : Avp) (xs : List Avp) → each i (a ∷ xs) ≡ or_else (own i a xs) (each (i + 1) xs))
       (same : (a : Avp) (members rest : Forest) (above : ℕ) (xs : List Avp) (i : ℕ)
       → FamilyAt a members rest above xs i → said i ≡ own i a (flat members ++ (flat rest ++ xs))) where
@@ -181,9 +178,9 @@ module _ (entry : ℕ → ℕ → ℕ)
 
   -- an AVP, by what is said of its members
   group_by_lem : (ys : List Avp) (a : Avp) (members rest : Forest) (above : ℕ) (xs : List Avp) (i : ℕ)
-      → FamilyAt entry at ys a members rest above xs i → (m : Members)
+      → FamilyAt entry at ys a members rest above xs i → (m : Option Grammar)
       → group_by at (length ys) i m ≡ group_outcome m a (flat members ++ (flat rest ++ xs))
-  group_by_lem ys a members rest above xs i h (Under g) =
+  group_by_lem ys a members rest above xs i h (Some g) =
       let p = h.placed in
       let few = length-append (flat members) (flat rest ++ xs) in
       let last : min (i + 1 + length (flat members)) (length ys) ≡ i + 1 + length (flat members) =
@@ -191,7 +188,7 @@ module _ (entry : ℕ → ℕ → ℕ)
       rw (h.stands.first, p.0)
       (list_by_lem members (above + 1) (flat rest ++ xs) (i + 1) (min (i + 1 + length (flat members)) (length ys)) p.1
       (level_rest rest above xs p.2 h.level) h.stands.inside last g (end_of a))
-  group_by_lem ys a members rest above xs i h NoMembers = refl
+  group_by_lem ys a members rest above xs i h None = refl
 
   -- the groups, each at its position
   groups_by : (ys : List Avp) → IsForest 1 ys → Stands entry at 0 ys

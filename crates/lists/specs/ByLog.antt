@@ -1,15 +1,10 @@
 -- The row checks by the numbers that a log holds: a member's row by the number of its entry, the next member by the
 -- position after the last descendant. Of the log of a walk they say what document 01 says of its AVPs (proofs/Walked);
 -- for any other numbers they are defined all the same.
-use Rattle.std.specs.Prelude.{ℕ, zero, suc, ◌+◌, ◌-◌, min, List, [], ◌∷◌, Bool, true, false, cond, ltb}
-use Rattle.rules.specs.declared.Outcome.{Outcome}
-use Rattle.rules.specs.declared.Outcome.TheVariants.{Pass}
-use Rattle.rules.specs.declared.Members.{Members}
-use Rattle.rules.specs.declared.Members.TheVariants.{Under, NoMembers}
+use Rattle.std.specs.Prelude.{ℕ, zero, suc, ◌+◌, ◌-◌, min, List, [], ◌∷◌, Bool, true, false, cond, ltb, Option, Some, None}
 use Rattle.rules.specs.declared.Admission.{Admission}
-use Rattle.rules.specs.declared.Admission.TheVariants.{NoRow}
 use Rattle.rules.specs.declared.Grammar.{Grammar}
-use Rattle.rules.specs.Verdict.{or_else}
+use Rattle.rules.specs.Verdict.{or_else, Outcome, no_refusal}
 use Rattle.rules.specs.Avp.{end_of}
 use Rattle.rules.specs.Rows.{admits_others}
 use Rattle.rules.specs.Dictionary.{dictionary, members_of}
@@ -18,8 +13,8 @@ use Rattle.dictionary.specs.Entries.{said_at, definition_at}
 use Rattle.walk_log.specs.Log.{Logged}
 
 -- the row of a list that names the entry with a number; none where no entry has it
-unfoldable pub admission_at : Grammar → ℕ → Admission
-admission_at g = said_at NoRow (λ d. admission g d.vendor d.code) dictionary
+unfoldable pub admission_at : Grammar → ℕ → Option Admission
+admission_at g = said_at None (λ d. admission g d.vendor d.code) dictionary
 
 -- the members of a list in order: the one at position i, the one behind its last descendant, and so on, before position
 -- `stop`. The first argument bounds the steps; as many as there are positions are enough
@@ -43,9 +38,9 @@ abbrev pub family_end : (ℕ → Logged) → ℕ → ℕ → ℕ
 family_end at count i = min (at i).after count
 
 -- the AVP at position i of `count`: where it is a group, its list
-abbrev pub group_by : (ℕ → Logged) → ℕ → ℕ → Members → Outcome
-group_by at count i (Under g) = list_by at g (end_of (at i).avp) (i + 1) (family_end at count i)
-group_by at count i NoMembers = Pass
+abbrev pub group_by : (ℕ → Logged) → ℕ → ℕ → Option Grammar → Outcome
+group_by at count i (Some g) = list_by at g (end_of (at i).avp) (i + 1) (family_end at count i)
+group_by at count i None = no_refusal
 
 -- what is said at a position by its entry
 abbrev pub group_at : (ℕ → Logged) → ℕ → ℕ → Outcome
@@ -53,7 +48,7 @@ group_at at count i = group_by at count i (members_of (definition_at dictionary 
 
 -- the first fault of what is said at n positions from i on
 unfoldable pub first_fault : (ℕ → Outcome) → ℕ → ℕ → Outcome
-first_fault said zero i = Pass
+first_fault said zero i = no_refusal
 first_fault said (suc n) i = or_else (said i) (first_fault said n (i + 1))
 
 -- the command's list, which ends at `end`, then each group in walk order

@@ -1,8 +1,8 @@
 -- The first position of each entry among the members of a list, which the exchange rules search by. It is kept while
 -- the members are judged.
-use Rattle.std.specs.Prelude.{◌≡◌, ℕ, zero, suc, ◌-◌, min, List, cond, ltb, length, get_or, set, replicate}
-use Rattle.rules.specs.declared.Outcome.{Outcome}
-use Rattle.rules.specs.declared.Outcome.TheVariants.{Pass}
+use Rattle.std.specs.Prelude.{ℕ, zero, suc, ◌-◌, min, List, cond, ltb, length, get_or, set, replicate, Result, Ok, Err}
+use Rattle.rules.specs.declared.Verdict.{Verdict}
+use Rattle.rules.specs.Verdict.{Outcome}
 use Rattle.rules.specs.declared.Grammar.{Grammar}
 use Rattle.rules.specs.Dictionary.{dictionary}
 use Rattle.rules.specs.Walk.{most_avps}
@@ -23,8 +23,11 @@ firsts_from zero at i stop firsts = firsts
 firsts_from (suc n) at i stop firsts =
     cond (ltb i stop) (firsts_from n at (at i).after stop (noted firsts (at i).entry i)) firsts
 
--- what judging a list gives, which stands from one position on and before another; after a refusal what `firsts` holds
--- is free
-pub record ListJudged (at : ℕ → Logged) (g : Grammar) (end from to : ℕ) (firsts : List ℕ) (r : Outcome) (after : List ℕ) : Type 0 where
-  pub is : r ≡ list_by at g end from to
-  pub kept : r ≡ Pass → after ≡ firsts_from (to - from) at from to firsts
+-- what goes on with a value where an outcome passes, and else is its refusal
+abbrev pub passed_with : {A : Type 0} → Outcome → A → Result A Verdict
+passed_with (Ok u) a = Ok a
+passed_with (Err v) a = Err v
+
+-- what judging a list gives, which stands from one position on and before another
+abbrev pub list_in : (ℕ → Logged) → Grammar → ℕ → ℕ → ℕ → Result (List ℕ) Verdict
+list_in at g end from to = passed_with (list_by at g end from to) (firsts_from (to - from) at from to no_firsts)

@@ -1,19 +1,15 @@
 -- The rows of all lists as two tables of numbers: what a number says, and the rule of each right table, which holds for
 -- all lists at once.
-use Rattle.std.specs.Prelude.{◌≡◌, ℕ, zero, suc, ◌+◌, ◌*◌, ◌/◌, ◌%◌, ◌≤◌, ◌<◌, List, [], ◌∷◌, map, Bool, cond, ◌&&◌, length, get_or, eqb, leb, ltb}
+use Rattle.std.specs.Prelude.{◌≡◌, ℕ, zero, suc, ◌+◌, ◌*◌, ◌/◌, ◌%◌, ◌<◌, List, [], ◌∷◌, map, Bool, cond, ◌&&◌, length, get_or, eqb, leb, ltb, Option, None, Some}
 use Rattle.rules.specs.declared.Mark.{Mark}
 use Rattle.rules.specs.declared.Mark.TheVariants.{First, FirstIfPresent, Once, AtMostOnce, AnyNumber}
 use Rattle.rules.specs.declared.Grammar.{Grammar}
 use Rattle.rules.specs.declared.Grammar.TheVariants.{Request, Answer, ErrorAnswer, VendorSpecificApplicationId, ExperimentalResult, ProxyInfo, SupportedFeatures, TimeWindow, TransferPolicy}
 use Rattle.rules.specs.declared.Admission.{Admission}
-use Rattle.rules.specs.declared.Admission.TheVariants.{ByRow, NoRow}
-use Rattle.rules.specs.declared.Outcome.{Outcome}
-use Rattle.rules.specs.declared.Outcome.TheVariants.{Pass}
-use Rattle.rules.specs.Verdict.{refused, refuse_if}
+use Rattle.rules.specs.Verdict.{refused, refuse_if, Outcome, no_refusal}
 use Rattle.rules.specs.Rows.{Row, rows_of}
-use Rattle.rules.specs.RowChecks.{is_required}
+use Rattle.rules.specs.RowChecks.{is_required, by_row}
 use Rattle.rules.specs.Dictionary.{dictionary}
-use Rattle.rules.specs.Walk.{most_avps}
 use Rattle.dictionary.specs.Entries.{vendor_of, code_of}
 use Rattle.lists.specs.ByLog.{admission_at}
 
@@ -48,9 +44,9 @@ mark_of_member Once = Once
 mark_of_member AtMostOnce = AtMostOnce
 mark_of_member AnyNumber = AnyNumber
 
-abbrev pub for_member : Admission → Admission
-for_member (ByRow row mark) = ByRow row (mark_of_member mark)
-for_member NoRow = NoRow
+abbrev pub for_member : Option Admission → Option Admission
+for_member (Some a) = by_row a.row (mark_of_member a.mark)
+for_member None = None
 
 -- such a mark by its number
 abbrev pub mark_at : ℕ → Mark
@@ -63,19 +59,19 @@ mark_at (suc (suc (suc n))) = AnyNumber
 abbrev pub admission_mark : ℕ
 admission_mark = 32
 
-unfoldable pub admission_in : ℕ → Admission
+unfoldable pub admission_in : ℕ → Option Admission
 admission_in number =
-    cond (leb row_places (number % admission_mark)) NoRow
-    (ByRow (number % admission_mark) (mark_at (number / admission_mark)))
+    cond (leb row_places (number % admission_mark)) None
+    (by_row (number % admission_mark) (mark_at (number / admission_mark)))
 
 pub record AdmissionTable (table : List ℕ) : Type 0 where
   pub rule : (g : Grammar) (n entry : ℕ) → ListAt g n → entry < entry_places
       → admission_in (get_or table (n * entry_places + entry) 0) ≡ for_member (admission_at g entry)
 
 -- what a lookup promises: the row that names an entry in a list, and that the row has a count
-pub record Admits (g : Grammar) (entry : ℕ) (r : Admission) : Type 0 where
+pub record Admits (g : Grammar) (entry : ℕ) (r : Option Admission) : Type 0 where
   pub is : r ≡ for_member (admission_at g entry)
-  pub below : (row : ℕ) (mark : Mark) → r ≡ ByRow row mark → row < row_places
+  pub below : (row : ℕ) (mark : Mark) → r ≡ by_row row mark → row < row_places
 
 -- ---- the table of the rows in the printed order
 
@@ -117,14 +113,7 @@ pub record RowTable (table : List ℕ) : Type 0 where
 
 -- the first missing one, counted from i
 unfoldable pub missing_among : ℕ → List Requirement → List ℕ → ℕ → Outcome
-missing_among i [] counts end = Pass
+missing_among i [] counts end = no_refusal
 missing_among i (q ∷ qs) counts end =
     refuse_if (q.required && eqb (get_or counts i 0) 0) (refused 5005 end q.vendor q.code)
     (missing_among (i + 1) qs counts end)
-
--- ---- what the checks of lists are lent: positions that a log has, and the two right tables
-
-pub record Lent (stop : ℕ) (admissions rows : List ℕ) : Type 0 where
-  pub few : stop ≤ most_avps
-  pub admits : AdmissionTable admissions
-  pub wants : RowTable rows

@@ -1,6 +1,6 @@
 // 01, Rows, as a table over the dictionary's entries for all lists: at the place of a list and an entry stands the row
-// of the list that names the entry, with its mark. A constant array is built anew where it is named, so the table is
-// made once and lent.
+// of the list that names the entry, with its mark. Each is a number of one octet: an `Option<Admission>` takes 16
+// octets at each of the 432 places, and `AdmissionTable` is a rule of numbers.
 ghost use Rattle.lists.specs.Tables.{AdmissionTable};
 
 use crate::places;
@@ -27,7 +27,7 @@ const ANY_NUMBER: u8 = 3 * MARK;
 const NO_ROW: u8 = places::ROW_PLACES as u8;
 
 // Behind each number stands the kind of the entry.
-const TABLE: [u8; NUMBERS] = [
+static TABLE: [u8; NUMBERS] = [
     // BTR
     NO_ROW, // AuthApplicationId
     NO_ROW, // AcctApplicationId
@@ -471,8 +471,9 @@ const TABLE: [u8; NUMBERS] = [
     NO_ROW, // TransferPolicy
 ];
 
-pub(crate) fn table() -> [u8; NUMBERS]
-    ensures { AdmissionTable result }
+// A function hands it out, since a static has no clause that says its rule (`AdmissionTable`).
+pub(crate) fn table() -> &'static [u8; NUMBERS]
+    ensures { AdmissionTable result.now }
 {
-    TABLE
+    &TABLE
 }

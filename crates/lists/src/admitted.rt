@@ -2,7 +2,7 @@
 // that no row names. Of a mark only what it says of a member matters here.
 ghost use Rattle.std.specs.Prelude.{◌≡◌};
 ghost use Rattle.rules.specs.Rows.{admits_others};
-ghost use Rattle.lists.specs.Tables.{mark_at, admission_in, AdmissionTable, Admits};
+ghost use Rattle.lists.specs.Tables.{mark_at, admission_in, Admits};
 
 use crate::{admission_table, places};
 use dictionary::kinds;
@@ -27,48 +27,38 @@ fn mark_of(number: u8) -> Mark
 }
 
 // What a number of the table says.
-fn admission_in(number: u8) -> Admission
+#[tactic(auto, unfolding(crate::specs::Tables::admission_in))]
+fn admission_in(number: u8) -> Option<Admission>
     ensures { result ≡ admission_in number }
 {
-    let row = (number % admission_table::MARK) as usize;
+    let row = usize::from(number % admission_table::MARK);
     if places::ROW_PLACES <= row {
-        return Admission::NoRow;
+        return None;
     }
-    Admission::ByRow {
+    Some(Admission {
         row,
         mark: mark_of(number / admission_table::MARK),
-    }
+    })
 }
 
 // The row of a list that names an entry.
-pub(crate) fn row_of(
-    table: &[u8; admission_table::NUMBERS],
-    grammar: Grammar,
-    entry: u8,
-) -> Admission
-    requires { AdmissionTable table.now }
+pub(crate) fn row_of(grammar: Grammar, entry: u8) -> Option<Admission>
     ensures { Admits grammar entry result }
 {
     if kinds::NO_ENTRY <= entry {
-        return Admission::NoRow;
+        return None;
     }
-    let place = places::list_index(grammar) * kinds::ENTRIES + entry as usize;
-    admission_in(table[place])
+    let place = places::list_index(grammar) * kinds::ENTRIES + usize::from(entry);
+    admission_in(admission_table::table()[place])
 }
 
 // "+" at the end admits any other AVP in any number.
+#[tactic(auto, unfolding(rules::specs::Rows::admits_others))]
 pub(crate) fn admits_others(grammar: Grammar) -> bool
     ensures { result ≡ admits_others grammar }
 {
-    match grammar {
-        Grammar::Request => true,
-        Grammar::Answer => true,
-        Grammar::VendorSpecificApplicationId => false,
-        Grammar::ExperimentalResult => false,
-        Grammar::ProxyInfo => true,
-        Grammar::SupportedFeatures => true,
-        Grammar::TimeWindow => true,
-        Grammar::TransferPolicy => true,
-        Grammar::ErrorAnswer => true,
-    }
+    !matches!(
+        grammar,
+        Grammar::VendorSpecificApplicationId | Grammar::ExperimentalResult
+    )
 }

@@ -1,22 +1,22 @@
 // The lists of a command over a lent log (01, Order of checks, Rows and Exchange rules): the command's own, then each
 // group in walk order. The log has each AVP's entry, by which its row is looked up, and the position after its last
-// descendant, where the next member stands. The exchange rules go by the first positions that the rows' pass keeps, and
-// by the number of policies that the loop over groups counts.
+// descendant, where the next member stands.
 #![tactic(auto)]
 
-ghost use Rattle.std.specs.Prelude.{◌≡◌, cond, ◌≤◌, min};
-ghost use Rattle.rules.specs.Verdict.{verdict_of, Answers};
+ghost use Rattle.std.specs.Prelude.{◌≡◌, cond, ◌≤◌};
+ghost use Rattle.rules.specs.Verdict.{verdict_of, Answers, no_refusal};
 ghost use Rattle.rules.specs.Rows.{admits_others};
 ghost use Rattle.rules.specs.RowChecks.{counted_at, member_fault};
 ghost use Rattle.rules.specs.Walk.{most_avps};
 ghost use Rattle.walk_log.specs.Log.{logged_of};
-ghost use Rattle.lists.specs.Counts.{HasRoom, gain};
-ghost use Rattle.lists.specs.Firsts.{no_firsts, noted, ListJudged};
+ghost use Rattle.lists.specs.Counts.{HasRoom};
+ghost use Rattle.lists.specs.Firsts.{no_firsts, noted, list_in};
 ghost use Rattle.lists.specs.Exchanges.{lists_in};
-ghost use Rattle.lists.specs.Tables.{Lent};
 
+use crate::groups::Command;
 use dictionary::kinds;
-use rules::{Admission, Avp, CommandRules, Grammar, Outcome, limits};
+use rules::{Admission, Avp, CommandRules, Grammar, Outcome, Verdict, limits};
+use walk_log::Log;
 
 mod admission_table;
 mod admitted;
@@ -26,51 +26,32 @@ mod places;
 mod requirements;
 mod row_table;
 
-// What the count at a place gains by a member of a row.
-fn gain(k: usize, row: usize) -> u16
-    ensures { (result ≡ gain k row) × (result ≤ 1) }
-{
-    if k == row {
-        return 1;
-    }
-    0
-}
-
 // The row counts with one more member of a row. Every place is stored: a copy of the whole array waits for a store of
-// one count right before it.
+// one count right before it (measured in docs/speed.md).
 fn counted(counts: [u16; places::ROW_PLACES], row: usize) -> [u16; places::ROW_PLACES]
     requires { HasRoom counts }
     ensures { result ≡ counted_at counts row }
 {
     let mut more = counts;
-    let mut k: usize = 0;
-    while k < places::ROW_PLACES {
-        more[k] = counts[k] + gain(k, row);
-        k += 1;
+    for k in 0..places::ROW_PLACES {
+        more[k] = counts[k] + u16::from(k == row);
     }
     more
 }
 
 // A member that no row names.
 fn without_row(grammar: Grammar, a: Avp) -> Outcome
-    ensures { result ≡ cond (admits_others grammar) Outcome.Pass (member_fault 5008 a) }
+    ensures { result ≡ cond (admits_others grammar) no_refusal (member_fault 5008 a) }
 {
     if admitted::admits_others(grammar) {
-        return Outcome::Pass;
+        return Ok(());
     }
     avp::member_fault(5008, a)
 }
 
-fn least(a: u16, b: u16) -> u16
-    ensures { result ≡ min a b }
-{
-    if a < b {
-        return a;
-    }
-    b
-}
-
-// No entry was met yet in a list: the number of places of a record is no position.
+// No entry was met yet in a list: the number of places of a record is no position. No Option: `exchange::judge`
+// promises what it says for any numbers.
+#[tactic(auto, unfolding(rules::specs::Dictionary::dictionary))]
 fn no_firsts() -> [u16; kinds::ENTRIES]
     ensures { result ≡ no_firsts }
 {
@@ -78,88 +59,70 @@ fn no_firsts() -> [u16; kinds::ENTRIES]
 }
 
 // Keeps the first position of an entry, with a member at a position; a number that is no entry's has no place.
+#[tactic(auto, using(crate::proofs::Noted::noted_at, crate::proofs::Noted::noted_none))]
 fn note(firsts: &mut [u16; kinds::ENTRIES], entry: u8, position: u16)
     ensures { firsts.new ≡ noted firsts.old entry position }
 {
-    if kinds::NO_ENTRY <= entry {
-        return;
+    if entry < kinds::NO_ENTRY {
+        let place = usize::from(entry);
+        firsts[place] = firsts[place].min(position);
     }
-    let place = entry as usize;
-    firsts[place] = least(firsts[place], position);
 }
 
-// The list whose members stand from one position on and before another. The first position of each entry is kept for
-// the exchange rules.
-fn list_outcome(
-    log: &[u32; limits::LOG_NUMBERS],
+// A list, which ends at `end`: its members stand in the log from one position on and before another.
+#[derive(Clone, Copy)]
+pub(crate) struct List<'a> {
+    log: &'a Log,
+    grammar: Grammar,
     from: usize,
     to: usize,
-    admissions: &[u8; admission_table::NUMBERS],
-    rows: &[u8; row_table::NUMBERS],
-    grammar: Grammar,
     end: u32,
-    firsts: &mut [u16; kinds::ENTRIES],
-) -> Outcome
-    requires { Lent to admissions.now rows.now }
-    ensures { ListJudged (logged_of log.now) grammar end from to firsts.old result firsts.new }
-{
-    let mut counts = [0u16; places::ROW_PLACES];
-    let mut first = true;
-    let mut i = from;
-    while i < to {
-        let a = walk_log::get(log, i);
-        let entry = walk_log::entry_at(log, i);
-        note(firsts, entry, i as u16);
-        i = walk_log::after_at(log, i);
-        let Admission::ByRow { row, mark } = admitted::row_of(admissions, grammar, entry) else {
-            let other = without_row(grammar, a);
-            let Outcome::Pass = other else {
-                return other;
-            };
-            first = false;
-            continue;
-        };
-        let outcome = faults::by_mark(mark, 0 < counts[row], first, a);
-        let Outcome::Pass = outcome else {
-            return outcome;
-        };
-        let more = counted(counts, row);
-        counts = more;
-        first = false;
-    }
-    requirements::missing_row(rows, grammar, &counts, end)
+    ghost in_record: { to ≤ most_avps },
 }
 
-// What these rules say of the lists of the command `s`, whose AVPs stand in a log with this count, above 256 read as 256,
-// and whose own list ends at `end`.
-pub fn judge(
-    rules: CommandRules,
-    s: &[u8],
-    log: &[u32; limits::LOG_NUMBERS],
-    count: usize,
-    end: u32,
-) -> Outcome
+impl List<'_> {
+    // What the rows say of it, and where it passes the first position of each entry, for the exchange rules. The index
+    // goes on by families, to the position after each member's last descendant.
+    pub(crate) fn judge(&self) -> Result<[u16; kinds::ENTRIES], Verdict>
+        ensures { let l = self.now in result ≡ list_in (logged_of l.log.now) l.grammar l.end l.from l.to }
+    {
+        let mut firsts = no_firsts();
+        let mut counts = [0u16; places::ROW_PLACES];
+        let mut first = true;
+        let mut i = self.from;
+        while i < self.to {
+            let a = walk_log::get(self.log, i);
+            let entry = walk_log::entry_at(self.log, i);
+            note(&mut firsts, entry, i as u16);
+            i = walk_log::after_at(self.log, i);
+            let Some(Admission { row, mark }) = admitted::row_of(self.grammar, entry) else {
+                without_row(self.grammar, a)?;
+                first = false;
+                continue;
+            };
+            faults::by_mark(mark, 0 < counts[row], first, a)?;
+            counts = counted(counts, row);
+            first = false;
+        }
+        requirements::missing_row(self.grammar, &counts, self.end)?;
+        Ok(firsts)
+    }
+}
+
+// What these rules say of the lists of the command `s`, whose AVPs stand in a log with this count, above 256 read as
+// 256, and whose own list ends at `end`.
+pub fn judge(rules: CommandRules, s: &[u8], log: &Log, count: usize, end: u32) -> Outcome
     ensures { Answers verdict_of (lists_in rules s.now log.now end count) result }
 {
-    let admissions = admission_table::table();
-    let rows = row_table::table();
-    let used = walk_log::used(count);
-    let mut firsts = no_firsts();
-    let grammar = rules.rows;
-    let own = list_outcome(log, 0, used, &admissions, &rows, grammar, end, &mut firsts);
-    if let Outcome::Refused(_) = own {
-        return own;
-    }
-    let groups = groups::groups_outcome(s, log, used, &admissions, &rows);
-    let in_groups = groups.rows;
-    if let Outcome::Refused(_) = in_groups {
-        return in_groups;
-    }
-    let number = groups.number;
-    let policies = groups.policies;
-    let windows = groups.windows;
-    let exchange = rules.exchange;
-    exchange::judge(
-        exchange, s, log, &firsts, used, end, number, policies, windows,
-    )
+    let count = walk_log::used(count);
+    let own = List {
+        log,
+        grammar: rules.rows,
+        from: 0,
+        to: count,
+        end,
+    };
+    let firsts = own.judge()?;
+    let groups = Command { s, log, count }.groups()?;
+    exchange::judge(rules.exchange, s, log, &firsts, count, end, groups)
 }

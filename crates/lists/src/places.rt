@@ -11,15 +11,5 @@ pub(crate) const ROW_PLACES: usize = 24;
 pub(crate) fn list_index(grammar: Grammar) -> usize
     ensures { ListAt grammar result }
 {
-    match grammar {
-        Grammar::Request => 0,
-        Grammar::Answer => 1,
-        Grammar::VendorSpecificApplicationId => 2,
-        Grammar::ExperimentalResult => 3,
-        Grammar::ProxyInfo => 4,
-        Grammar::SupportedFeatures => 5,
-        Grammar::TimeWindow => 6,
-        Grammar::TransferPolicy => 7,
-        Grammar::ErrorAnswer => 8,
-    }
+    grammar as usize
 }

@@ -1,5 +1,6 @@
 // 01, Rows, in the printed order for all lists: at the place of a list and a row stands the entry that the row names,
-// with what its mark asks for. As `admission_table`, it is made once and lent.
+// with what its mark asks for, in a number of one octet: most places are behind a list's last row, and `RowTable` is a
+// rule of numbers.
 ghost use Rattle.lists.specs.Tables.{RowTable};
 
 use crate::places;
@@ -24,7 +25,7 @@ const ANY_NUMBER: u8 = FREE;
 // Behind the last row of a list.
 pub(crate) const END: u8 = 255;
 
-const TABLE: [u8; NUMBERS] = [
+static TABLE: [u8; NUMBERS] = [
     // BTR
     FIRST + kinds::SessionId::ENTRY,
     AT_MOST_ONCE + kinds::Drmp::ENTRY,
@@ -252,8 +253,9 @@ const TABLE: [u8; NUMBERS] = [
     END,
 ];
 
-pub(crate) fn table() -> [u8; NUMBERS]
-    ensures { RowTable result }
+// A function hands it out, since a static has no clause that says its rule (`RowTable`).
+pub(crate) fn table() -> &'static [u8; NUMBERS]
+    ensures { RowTable result.now }
 {
-    TABLE
+    &TABLE
 }

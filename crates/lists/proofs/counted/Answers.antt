@@ -2,6 +2,8 @@
 use borrow.Author.Rules.{rules}
 use mathlib.Core.Path.{◌≡◌}
 use native.Mathlib.Omega.{arith}
+use mathlib.Core.Bool.{cond}
+use lib.Dec.{eqb}
 use lib.ListN.{length}
 use Rattle.lists.proofs.Counts.{counted_next}
 use Rattle.lists.proofs.counted.Goals as goal
@@ -11,4 +13,5 @@ loop-k-preserved c =
     let s = c.args in
     let l = c.loop-k in
     let full : length s.counts ≡ 24 = search rules in
-    (omega arith, rw (l.invariant.1, c.gain.ensures.0) (counted_next s.counts s.row l.k (omega arith)))
+    let gain : c.from.result ≡ cond (eqb l.k s.row) 1 0 = search rules in
+    rw (l.invariant, gain) (counted_next s.counts s.row l.k (omega arith))

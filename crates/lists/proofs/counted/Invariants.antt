@@ -1,11 +1,7 @@
 -- `lists::counted` meets its contract. The invariant: the places before `k` are counted.
 use mathlib.Core.Path.{◌≡◌}
-use Prim.Native.Nat.{◌≤◌, ◌-◌}
 use Rattle.lists.proofs.Counts.{counted_to}
 use Rattle.lists.proofs.counted.Given as goal
 
 abbrev pub invariant-loop-k : goal.invariant-loop-k
-invariant-loop-k l = (l.k ≤ 24) × (l.more ≡ counted_to l.counts l.row l.k)
-
-abbrev pub decreases-loop-k : goal.decreases-loop-k
-decreases-loop-k l = 24 - l.k
+invariant-loop-k l = l.more ≡ counted_to l.counts l.row l.k

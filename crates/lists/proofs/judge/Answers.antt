@@ -1,5 +1,7 @@
 -- `lists::judge` meets its contract.
-use mathlib.Core.Path.{◌≡◌, ap, ◌∙◌}
+use borrow.Author.Rules.{rules as found}
+use mathlib.Core.Path.{◌≡◌, sym, ap, ◌∙◌}
+use Rattle.std.specs.Prelude.{Err}
 use mathlib.Core.List.{List}
 use Prim.Native.Nat.{ℕ, min}
 use native.Mathlib.Nat.{sub-zero}
@@ -11,7 +13,7 @@ use Rattle.rules.proofs.Outcomes.{answers}
 use Rattle.walk_log.specs.Log.{logged_of, avps_in}
 use Rattle.walk_log.proofs.Log.{avps_used}
 use Rattle.lists.specs.Exchanges.{lists_by, lists_in}
-use Rattle.lists.proofs.Members.{own_refused, group_refused, rows_passed}
+use Rattle.lists.proofs.Members.{passed_refused, passed_all, own_refused, group_refused, rows_passed}
 use Rattle.lists.proofs.judge.Goals as goal
 
 -- what is asked, by the AVPs that are used
@@ -22,32 +24,30 @@ used log rules s end count n e =
     ap (λ (xs : List Avp). lists_by (logged_of log) xs rules s end n) same
     ∙ ap (lists_by (logged_of log) (avps_in log count) rules s end) e
 
-pub returns-in-Refused : goal.returns-in-Refused
-returns-in-Refused c =
+pub returns-in_err-firsts : goal.returns-in_err-firsts
+returns-in_err-firsts c =
     let a = c.args in
-    let asked = used a.log.now a.rules a.s.now a.end a.count _ c.used-used.ensures in
-    answers _ _ _ (own_refused _ _ _ _ _ _ _ c.list_outcome-own.ensures.is c.in-Refused.is ∙ asked)
+    let asked = used a.log.now a.rules a.s.now a.end a.count _ c.used-count.ensures in
+    let refused : c.from_residual.result ≡ Err c.in_err-firsts.field-0.0 = search found in
+    let own = passed_refused _ _ _ (sym c.judge.ensures ∙ c.in_err-firsts.was) in
+    answers _ _ _ (refused ∙ own_refused _ _ _ _ _ _ _ own ∙ asked)
 
-pub returns-in-Refused-in_groups : goal.returns-in-Refused-in_groups
-returns-in-Refused-in_groups c =
+pub returns-in_err-groups : goal.returns-in_err-groups
+returns-in_err-groups c =
     let a = c.args in
-    let asked = used a.log.now a.rules a.s.now a.end a.count _ c.used-used.ensures in
-    let groups = c.groups_outcome-groups.ensures in
-    answers _ _ _
-    (group_refused _ _ _ _ _ _ _ c.list_outcome-own.ensures.is c.in_default.is _ groups.rows
-    c.in-Refused-in_groups.is
-    ∙ asked)
+    let asked = used a.log.now a.rules a.s.now a.end a.count _ c.used-count.ensures in
+    let refused : c.from_residual-in_err-groups.result ≡ Err c.in_err-groups.field-0.0 = search found in
+    let own = passed_all _ _ _ (sym c.judge.ensures ∙ c.in_ok-firsts.was) in
+    answers _ _ _ (refused ∙ group_refused _ _ _ _ _ _ own.0 _ c.groups.ensures _ c.in_err-groups.was ∙ asked)
 
 pub returns : goal.returns
 returns c =
     let a = c.args in
-    let asked = used a.log.now a.rules a.s.now a.end a.count _ c.used-used.ensures in
-    let passed = c.in_default-in_groups.is in
-    let groups = c.groups_outcome-groups.ensures in
-    let few : min c.used-used.result most_avps ≡ c.used-used.result = omega (arith, c.used-used.ensures) in
-    let kept = rw (c.no_firsts-firsts.ensures, sub-zero c.used-used.result)
-    at (c.list_outcome-own.ensures.kept c.in_default.is) in
+    let asked = used a.log.now a.rules a.s.now a.end a.count _ c.used-count.ensures in
+    let own = passed_all _ _ _ (sym c.judge.ensures ∙ c.in_ok-firsts.was) in
+    let few : min c.used-count.result most_avps ≡ c.used-count.result = omega (arith, c.used-count.ensures) in
+    let firsts = rw (sub-zero c.used-count.result) at (sym own.1) in
     answers _ _ _
-    ((rw (few, kept, groups.number passed, groups.policies passed, groups.windows passed) at c.judge.ensures.is)
-    ∙ rows_passed _ _ _ _ _ _ _ c.list_outcome-own.ensures.is c.in_default.is _ groups.rows passed
+    ((rw (few, firsts) at c.judge-2.ensures.is)
+    ∙ rows_passed _ _ _ _ _ _ own.0 _ c.groups.ensures c.in_ok-groups.groups c.in_ok-groups.was
     ∙ asked)

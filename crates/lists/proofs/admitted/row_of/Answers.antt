@@ -11,4 +11,4 @@ returns-then-entry-ge-NO_ENTRY c =
 pub returns : goal.returns
 unfolding dictionary
 returns c =
-    admits_by _ c.requires _ _ _ _ c.list_index.ensures c.if-entry-ge-NO_ENTRY.false c.admission_in.ensures
+    admits_by _ c.table.ensures _ _ _ _ c.list_index.ensures c.if-entry-ge-NO_ENTRY.false (rw c.from.ensures at c.admission_in.ensures)
