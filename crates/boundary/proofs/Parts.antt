@@ -10,8 +10,16 @@ use Rattle.rules.specs.Search.{avp_in}
 use Rattle.rules.specs.Record.{data_start, data_length}
 use Rattle.lookup.proofs.Positions.{lies_unused, lies_outside, lies_inside, data_unused, data_outside, data_inside}
 use Rattle.numbers.specs.Numbers.{numbered_avp, numbered_count, numbered_record}
+use Rattle.boundary.specs.declared.Part.{Part}
 use Rattle.boundary.specs.Parts.{part, no_part, part_at, IsData}
 use Rattle.numbers.proofs.Numbers.{avp_in_lem, count_in}
+
+-- a part that is empty at the start, field by field
+same_part : {start size from count : ℕ} → start ≡ from → size ≡ count → part start size ≡ part from count
+same_part e f = rw (e, f)
+
+pub empty_part : (p : Part) → (p.start ≡ 0) × (p.length ≡ 0) → p ≡ no_part
+empty_part p e = same_part e.0 e.1
 
 module _ (numbers : List ℕ) (i : ℕ) (s : List ℕ) where
   pub part_unused : min (numbered_count numbers) most_avps ≤ i → IsData numbers i s no_part

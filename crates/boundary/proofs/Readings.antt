@@ -1,13 +1,13 @@
 -- What is read of a command as numbers: the record of its AVPs, with a refusal the empty one.
 use mathlib.Core.Path.{◌≡◌, refl, sym, ap, ◌∙◌}
+use Rattle.std.specs.Prelude.{Err}
 use mathlib.Core.List.{List}
 use Prim.Native.Nat.{ℕ, ◌≤◌}
 use lib.ListN.{length}
 use Rattle.rules.specs.declared.Avp.{Avp}
 use Rattle.rules.specs.declared.Record.{Record}
 use Rattle.rules.specs.declared.Verdict.{Verdict}
-use Rattle.rules.specs.declared.Outcome.TheVariants.{Pass, Refused}
-use Rattle.rules.specs.Verdict.{verdict}
+use Rattle.rules.specs.Verdict.{verdict, no_refusal}
 use Rattle.rules.specs.Walk.{most_avps, avps_of}
 use Rattle.rules.specs.Command.{walk_of, command_outcome, command_verdict}
 use Rattle.rules.specs.Record.{record_of, empty_record, record_by, reading}
@@ -35,7 +35,7 @@ module _ (s : List ℕ) (v : Verdict) (numbers : List ℕ) where
   }
 
   -- an accepted command, its AVPs in a log
-  pub read_accepted : command_outcome s ≡ Pass → v ≡ verdict 0 0 0 0 → (log : List ℕ) (count : ℕ) → count ≤ most_avps
+  pub read_accepted : command_outcome s ≡ no_refusal → v ≡ verdict 0 0 0 0 → (log : List ℕ) (count : ℕ) → count ≤ most_avps
       → avps_in log count ≡ avps_of (walk_of s) → numbers ≡ numbers_of (record_of s (avps_in log count)) → IsRead s v numbers
   unfolding record_of
   read_accepted pass told log count few met put =
@@ -44,7 +44,7 @@ module _ (s : List ℕ) (v : Verdict) (numbers : List ℕ) where
       let fits : length xs ≤ most_avps = rw (length-avps_in log count few) few in
       is_read (told ∙ verdict_accepted s pass) (record_of s xs) is (room_full xs fits) put
 
-  pub read_refused : command_outcome s ≡ Refused v → numbers ≡ numbers_of empty_record → IsRead s v numbers
+  pub read_refused : command_outcome s ≡ Err v → numbers ≡ numbers_of empty_record → IsRead s v numbers
   unfolding empty_record
   read_refused refused put =
       is_read (verdict_refused s refused) empty_record (sym (ap (record_by s) refused)) refl put

@@ -1,13 +1,12 @@
 -- What the answer of a search as numbers tells: 256, which is no position, is none.
 use mathlib.Core.Path.{◌≡◌, refl, ap}
+use Rattle.std.specs.Prelude.{Option, Some, None}
 use mathlib.Core.Logic.{◌↔◌}
 use mathlib.Core.List.{List}
 use Prim.Native.Nat.{ℕ, ◌≤◌}
 use native.Mathlib.Omega.{arith}
 use lib.ListN.{length}
 use Rattle.rules.specs.declared.Avp.{Avp}
-use Rattle.rules.specs.declared.Found.{Found}
-use Rattle.rules.specs.declared.Found.TheVariants.{At, Nothing}
 use Rattle.rules.specs.Walk.{most_avps}
 use Rattle.rules.specs.Search.{search, position_of}
 use Rattle.rules.specs.Record.{search_record}
@@ -17,9 +16,9 @@ use Rattle.numbers.proofs.Positions.{used_many}
 use Rattle.boundary.specs.Parts.{search_numbers}
 
 module _ (xs : List Avp) (few : length xs ≤ most_avps) (vendor code ordinal : ℕ) where
-  none_by : (f : Found) → (search xs vendor code ordinal).found ≡ f → position_of f ≡ most_avps → f ≡ Nothing
-  none_by (At i) e p = let h = ((search_nth xs vendor code ordinal i).0 e).within in absurd (omega arith)
-  none_by Nothing e p = refl
+  none_by : (f : Option ℕ) → (search xs vendor code ordinal).found ≡ f → position_of f ≡ most_avps → f ≡ None
+  none_by (Some i) e p = let h = ((search_nth xs vendor code ordinal i).0 e).within in absurd (omega arith)
+  none_by None e p = refl
 
 -- 02 [9] over the boundary: "'None' now means exactly that the ordinal is not below that number".
 -- Carried by search_none (rules/proofs/demands/Found).

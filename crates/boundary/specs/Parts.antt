@@ -1,8 +1,7 @@
 -- What the boundary hands back for a record as numbers: the part of a slice that an AVP's data is, as start and length,
 -- and the answer of a search as numbers.
-use Rattle.std.specs.Prelude.{◌≡◌, ℕ, List, length, take, drop, replicate}
+use Rattle.std.specs.Prelude.{◌≡◌, ℕ, List, length, take, drop, replicate, Err}
 use Rattle.rules.specs.declared.Verdict.{Verdict}
-use Rattle.rules.specs.declared.Outcome.TheVariants.{Refused}
 use Rattle.rules.specs.declared.Sought.{Sought}
 use Rattle.rules.specs.Command.{command_outcome, command_verdict}
 use Rattle.rules.specs.Record.{reading, data_start, data_length, data_at, search_record}
@@ -46,4 +45,4 @@ pub record IsRead (s : List ℕ) (r : Verdict) (numbers : List ℕ) : Type 0 whe
   pub recorded : numbers ≡ numbers_of (reading s).«record»
   pub stands : numbered_record numbers ≡ (reading s).«record»
   pub draft : (octets : List ℕ) → numbered_draft numbers octets ≡ draft_of (reading s).«record» octets
-  pub zero : (v : Verdict) → command_outcome s ≡ Refused v → numbers ≡ replicate record_numbers 0
+  pub zero : (v : Verdict) → command_outcome s ≡ Err v → numbers ≡ replicate record_numbers 0

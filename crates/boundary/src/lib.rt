@@ -1,11 +1,9 @@
 // The boundary for C and Rust callers: the verdict, the record as numbers, the data of a position, the search, the
-// writer, the canonical form, the seconds between two times, and commands from a link. include/talazumir.h says the
-// same in C's terms.
+// writer, the canonical form, the seconds between two times, and commands from a link. The names, the numbers of a
+// progress and for none, and the forms of what is handed over are the C interface (include/talazumir.h).
 #![tactic(auto)]
 
-ghost use Rattle.std.specs.Prelude.{◌≡◌, ◌≤◌};
-ghost use Rattle.rules.specs.Walk.{most_avps};
-ghost use Rattle.rules.specs.Search.{position_of};
+ghost use Rattle.std.specs.Prelude.{◌≡◌};
 ghost use Rattle.rules.specs.Times.{seconds};
 ghost use Rattle.reader.specs.Promise.{Judged};
 ghost use Rattle.numbers.specs.Draft.{numbered_draft};
@@ -13,13 +11,14 @@ ghost use Rattle.writer.specs.Promise.{IsWritten};
 ghost use Rattle.canonical.specs.Promise.{IsCanonical};
 ghost use Rattle.boundary.specs.Parts.{IsRead, IsData, search_numbers};
 
-use rules::{Found, Outcome, Verdict, Written, limits};
+use reader::Judgement;
+use rules::{Verdict, Written, limits};
 
 mod link;
 
 // A part of a slice, by its start and its length.
 #[repr(C)]
-#[derive(Clone, Copy)]
+#[derive(Clone, Copy, Debug, Default, PartialEq, Eq)]
 pub struct Part {
     pub start: usize,
     pub length: usize,
@@ -27,7 +26,7 @@ pub struct Part {
 
 // The answer of a search: a position, 256 for none, and how many AVPs with the vendor and code there are at depth 1.
 #[repr(C)]
-#[derive(Clone, Copy)]
+#[derive(Clone, Copy, Debug, PartialEq, Eq)]
 pub struct SoughtNumbers {
     pub position: u32,
     pub number: u32,
@@ -47,23 +46,22 @@ pub extern "C" fn talazumir_read(s: &[u8], numbers: &mut [u32; limits::RECORD_NU
     ensures { IsRead s.now result numbers.new }
 {
     let mut log = [0u32; limits::LOG_NUMBERS];
-    let judged = reader::judged(s, &mut log);
-    let outcome = judged.outcome;
-    let count = judged.count;
+    let Judgement { outcome, count } = reader::judged(s, &mut log);
     match outcome {
-        Outcome::Pass => {
+        Ok(()) => {
             numbers::put_command(numbers, s, &log, count);
             reader::accepted()
         }
-        Outcome::Refused(v) => {
+        Err(verdict) => {
             numbers::put_empty(numbers);
-            v
+            verdict
         }
     }
 }
 
 // The part of a slice that is the data of the AVP at a position; the empty part at 0 where the position is unused or
-// the part does not lie in the slice.
+// the part does not lie in the slice. By the numbers: `lookup::data` takes a record and answers with a slice, of which
+// C takes start and length.
 #[unsafe(no_mangle)]
 pub extern "C" fn talazumir_data(
     numbers: &[u32; limits::RECORD_NUMBERS],
@@ -72,33 +70,14 @@ pub extern "C" fn talazumir_data(
 ) -> Part
     ensures { IsData numbers.now position s.now result }
 {
-    if numbers::used(numbers) <= position {
-        return Part {
-            start: 0,
-            length: 0,
-        };
-    }
     let a = numbers::get(numbers, position);
     let start = a.start as usize;
     let length = a.length as usize;
-    if s.len() < start + length {
-        return Part {
-            start: 0,
-            length: 0,
-        };
+    if position < numbers::used(numbers) && start + length <= s.len() {
+        Part { start, length }
+    } else {
+        Part::default()
     }
-    Part { start, length }
-}
-
-// What a search finds as a number: 256 for none.
-fn position_of(found: Found) -> u32
-    requires { position_of found ≤ most_avps }
-    ensures { result ≡ position_of found }
-{
-    let Found::At(position) = found else {
-        return limits::MOST_AVPS as u32;
-    };
-    position as u32
 }
 
 // The position of the AVP at depth 1 with a vendor and code that has as many of them before it as the ordinal says, 256
@@ -113,9 +92,8 @@ pub extern "C" fn talazumir_search(
     ensures { result ≡ search_numbers numbers.now vendor code ordinal }
 {
     let sought = lookup::search_numbers(numbers, vendor, code, ordinal);
-    let found = sought.found;
     SoughtNumbers {
-        position: position_of(found),
+        position: sought.found.unwrap_or(limits::MOST_AVPS) as u32,
         number: sought.number as u32,
     }
 }

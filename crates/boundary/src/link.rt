@@ -6,7 +6,7 @@ ghost use Rattle.boundary.specs.Links.{no_verdict, link_step, IsTaken};
 use fragments::{Progress, State, Step};
 use rules::{Verdict, limits};
 
-// The progress of an answer.
+// The progress of an answer: its numbers are of the C interface (include/talazumir.h).
 const UNFINISHED: u32 = 0;
 
 const COMMAND: u32 = 1;
@@ -15,7 +15,7 @@ const REFUSAL: u32 = 2;
 
 // The answer to a fragment.
 #[repr(C)]
-#[derive(Clone, Copy)]
+#[derive(Clone, Copy, Debug, PartialEq, Eq)]
 pub struct LinkStep {
     pub taken: usize,
     pub progress: u32,
@@ -28,38 +28,24 @@ fn no_verdict() -> Verdict
     ensures { result ≡ no_verdict }
 {
     Verdict {
-        number: 4294967295,
-        place: 0,
-        vendor: 0,
-        code: 0,
+        number: u32::MAX,
+        ..Verdict::default()
     }
 }
 
 fn numbered(step: Step) -> LinkStep
     ensures { result ≡ link_step step }
 {
-    let taken = step.taken;
-    let state = step.state;
-    let progress = step.progress;
-    match progress {
-        Progress::Unfinished => LinkStep {
-            taken,
-            progress: UNFINISHED,
-            verdict: no_verdict(),
-            state,
-        },
-        Progress::Command(verdict) => LinkStep {
-            taken,
-            progress: COMMAND,
-            verdict,
-            state,
-        },
-        Progress::Refusal(verdict) => LinkStep {
-            taken,
-            progress: REFUSAL,
-            verdict,
-            state,
-        },
+    let (progress, verdict) = match step.progress {
+        Progress::Unfinished => (UNFINISHED, no_verdict()),
+        Progress::Command(verdict) => (COMMAND, verdict),
+        Progress::Refusal(verdict) => (REFUSAL, verdict),
+    };
+    LinkStep {
+        taken: step.taken,
+        progress,
+        verdict,
+        state: step.state,
     }
 }
 

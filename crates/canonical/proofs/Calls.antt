@@ -5,9 +5,8 @@ use mathlib.Core.List.{List}
 use Prim.Native.Nat.{ℕ}
 use lib.ListN.{take}
 use Rattle.rules.specs.declared.Reading.{Reading}
-use Rattle.rules.specs.declared.Outcome.TheVariants.{Pass}
 use Rattle.rules.specs.declared.Written.{Written}
-use Rattle.rules.specs.Verdict.{verdict, verdict_of}
+use Rattle.rules.specs.Verdict.{verdict, verdict_of, no_refusal}
 use Rattle.rules.specs.Command.{command_outcome, command_verdict}
 use Rattle.rules.specs.Record.{reading}
 use Rattle.rules.specs.Meaning.{meaning_of}
@@ -55,7 +54,7 @@ module _ (s out : List ℕ) (r : Reading) (is : r ≡ reading s) where
     command : AcceptedCommand s
     command = sym number_is ∙ zero
 
-    pass : command_outcome s ≡ Pass
+    pass : command_outcome s ≡ no_refusal
     pass = (demand_2_accepted s).0 command
 
     answered : w ≡ canonical s out

@@ -5,18 +5,16 @@
 
 ghost use Rattle.canonical.specs.Promise.{IsCanonical};
 
-use rules::Written;
+use rules::{Reading, Written};
 
 // Writes the canonical form of a command to the start of the output. A refusal is the reader's, else 7004 where the
 // output is shorter than the command; it leaves the output as it was.
 pub fn canonical(s: &[u8], out: &mut [u8]) -> Written
     ensures { IsCanonical s.now out.old result out.new }
 {
-    let reading = reader::read(s);
-    let verdict = reading.verdict;
+    let Reading { verdict, record } = reader::read(s);
     if verdict.number != 0 {
         return Written { verdict, length: 0 };
     }
-    let record = reading.record;
     writer::write(record, s, out)
 }

@@ -1,4 +1,3 @@
 -- The laws behind the tests of a draft.
-mod Cases
 mod Positions
 mod Formed

@@ -1,8 +1,10 @@
 -- A draft's AVPs position by position: each test of a list is that of the AVP at a position and of those behind it.
-use mathlib.Core.Path.{◌≡◌, ap, ◌∙◌}
-use mathlib.Core.Bool.{Bool, true, false, cond, ◌&&◌}
+use native.Mathlib.Omega.{arith}
+use Rattle.std.specs.List.{list_all, range_with_len}
+use mathlib.Core.Path.{◌≡◌, sym, ap, ◌∙◌}
+use mathlib.Core.Bool.{Bool, true, cond, ◌&&◌}
 use mathlib.Core.List.{List}
-use Prim.Native.Nat.{ℕ, ◌+◌, ◌≤◌, ◌<◌, min}
+use Prim.Native.Nat.{ℕ, zero, suc, ◌+◌, ◌-◌, ◌≤◌, ◌<◌, min}
 use borrow.Author.Tests.{lt-ltb, le-ltb}
 use lib.Dec.{leb, eqb}
 use lib.ListN.{drop}
@@ -14,12 +16,12 @@ use Rattle.numbers.specs.Numbers.{numbered_record, numbered_avp, numbered_count,
 use Rattle.numbers.proofs.Positions.{avps_next, avps_end, used_next, used_end}
 use Rattle.draft.specs.Drafts.{draft_cell, draft_cells, has_size}
 
--- a test that is one test and then the others
-pub and_stop : {p : Bool} (b q : Bool) → p ≡ (b && q) → b ≡ false → p ≡ false
-and_stop b q e f = e ∙ rw f
-
-pub and_on : {p : Bool} (b q : Bool) → p ≡ (b && q) → b ≡ true → p ≡ q
-and_on b q e f = e ∙ rw f
+-- a test of the positions one after the other, from one on, up to an end, is what is left to test there
+module _ (test left : ℕ → Bool) (end : ℕ) (next : (i : ℕ) → i < end → left i ≡ (test i && left (i + 1)))
+    (done : (i : ℕ) → end ≤ i → left i ≡ true) where
+  pub each_position : (i n : ℕ) → n ≡ end - i → list_all test (range_with_len i n) ≡ left i
+  each_position i zero e = sym (done i (omega arith))
+  each_position i (suc n) e = rw (each_position (i + 1) n (omega arith)) (sym (next i (omega arith)))
 
 module _ (numbers : List ℕ) where
   -- ---- all 256 positions

@@ -1,17 +1,12 @@
 -- The promises of the tests of a draft and of its sizes. What does not depend on a draft's octets is promised for all
 -- of them.
-use Rattle.std.specs.Prelude.{◌≡◌, ℕ, ◌+◌, ◌*◌, ◌^◌, ◌≤◌, ◌<◌, List, Bool, cond, length, get_or, drop, eqb}
+use Rattle.std.specs.Prelude.{◌≡◌, ℕ, ◌+◌, ◌*◌, ◌^◌, ◌≤◌, List, Bool, drop}
 use Rattle.rules.specs.declared.Avp.{Avp}
 use Rattle.rules.specs.Header.{header_size}
 use Rattle.rules.specs.Walk.{most_avps}
 use Rattle.rules.specs.Draft.{draft_of, cells_of, full_size, members_size}
 use Rattle.numbers.specs.Numbers.{numbered_record, numbered_avp, numbered_used}
 use Rattle.draft.specs.Drafts.{draft_cell, draft_cells, has_size}
-
--- each number fits four octets
-pub record AreSmall (numbers : List ℕ) (r : ℕ) : Type 0 where
-  pub is : r ≡ length numbers
-  pub small : (i : ℕ) → get_or numbers i 0 < 2 ^ 32
 
 -- the most octets of an AVP: a header with a vendor, and data of a length of four octets with its padding
 abbrev pub longest_avp : ℕ
@@ -20,11 +15,6 @@ longest_avp = 12 + 2 ^ 32
 -- the octets of an AVP with its padding
 pub record IsFullSize (a : Avp) (r : ℕ) : Type 0 where
   pub is : (s : List ℕ) → r ≡ full_size (draft_cell s a)
-  pub small : r ≤ longest_avp
-
--- those of an AVP at a depth, none at another
-pub record IsSizeAt (a : Avp) (depth r : ℕ) : Type 0 where
-  pub is : (s : List ℕ) → r ≡ cond (eqb a.depth depth) (full_size (draft_cell s a)) 0
   pub small : r ≤ longest_avp
 
 -- those of the members at a depth, from a position on

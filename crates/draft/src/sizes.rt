@@ -2,18 +2,21 @@
 ghost use Rattle.std.specs.Prelude.{◌≡◌, not, ◌≤◌, eqb};
 ghost use Rattle.rules.specs.Avp.{header_of};
 ghost use Rattle.rules.specs.Walk.{most_avps};
-ghost use Rattle.draft.specs.Promise.{IsFullSize, IsSizeAt, IsMembersSize};
+ghost use Rattle.draft.specs.Promise.{IsFullSize, IsMembersSize};
 
+use numbers::Numbers;
 use rules::{Avp, limits};
 
-// V is set exactly when the vendor is not 0.
+// V is set exactly when the vendor is not 0. Not shared with `avp` and `encoding`: that would be one more public
+// promise for one test.
 fn header_size(vendor: u32) -> usize
     ensures { result ≡ header_of (not (eqb vendor 0)) }
 {
     if vendor == limits::NO_VENDOR {
-        return limits::AVP_HEADER_SIZE;
+        limits::AVP_HEADER_SIZE
+    } else {
+        limits::AVP_HEADER_SIZE_WITH_VENDOR
     }
-    limits::AVP_HEADER_SIZE_WITH_VENDOR
 }
 
 // The octets of an AVP with its padding.
@@ -23,35 +26,21 @@ fn full_size(a: Avp) -> usize
     header_size(a.vendor) + octets::padded_length(a.length)
 }
 
-// Those of an AVP at a depth, none at another.
-fn size_at(a: Avp, depth: usize) -> usize
-    ensures { IsSizeAt a depth result }
-{
-    if a.depth as usize == depth {
-        return full_size(a);
-    }
-    0
-}
-
 // The octets of the members at a depth: of the AVPs from a position on those at that depth, up to the first above it.
-pub(crate) fn members_size(
-    numbers: &[u32; limits::RECORD_NUMBERS],
-    from: usize,
-    depth: usize,
-) -> usize
+pub(crate) fn members_size(numbers: &Numbers, from: usize, depth: usize) -> usize
     requires { from ≤ most_avps }
     ensures { IsMembersSize numbers.now from depth result }
 {
-    let used = numbers::used(numbers);
     let mut size: usize = 0;
-    let mut i = from;
-    while i < used {
-        let a = numbers::get(numbers, i);
-        if (a.depth as usize) < depth {
-            return size;
+    for position in from..numbers::used(numbers) {
+        let a = numbers::get(numbers, position);
+        let at = a.depth as usize;
+        if at < depth {
+            break;
         }
-        size += size_at(a, depth);
-        i += 1;
+        if at == depth {
+            size += full_size(a);
+        }
     }
     size
 }

@@ -1,5 +1,5 @@
 -- The AVPs of a draft put out one by one: with what is left at a position put, the octets are those of the whole list.
-use mathlib.Core.Path.{◌≡◌, refl, sym, ap, subst, ◌∙◌}
+use mathlib.Core.Path.{◌≡◌, sym, ap, subst, ◌∙◌}
 use mathlib.Core.List.{List, [], ◌++◌}
 use Prim.Native.Nat.{ℕ, ◌+◌, ◌≤◌, ◌<◌, min}
 use native.Mathlib.Omega.{arith}
@@ -13,7 +13,7 @@ use Rattle.octets.proofs.Puts.{sets-append}
 use Rattle.numbers.specs.Numbers.{numbered_avp, numbered_count, numbered_used}
 use Rattle.numbers.proofs.Positions.{used_next, used_end}
 use Rattle.draft.specs.Drafts.{draft_cell, draft_cells}
-use Rattle.encoding.specs.Promise.{numbered_list, IsPut, IsWhole, AllWhole, CanPut, CanPutAll}
+use Rattle.encoding.specs.Promise.{numbered_list, IsPut, IsWhole, AllWhole, CanPut}
 
 module _ (numbers s : List ℕ) (i : ℕ) where
   list_next : i < min (numbered_count numbers) most_avps → list_octets (draft_cells s (drop i (numbered_used numbers)))
@@ -36,9 +36,6 @@ pub record Left (numbers s before out : List ℕ) (at i : ℕ) : Type 0 where
   pub same : sets out at (list_octets (draft_cells s (drop i (numbered_used numbers)))) ≡ sets before header_size (numbered_list numbers s)
 
 module _ (numbers s before : List ℕ) where
-  pub left_all : CanPutAll before numbers s → Left numbers s before before header_size 0
-  left_all can = record { whole = can.whole; room = can.room; same = refl }
-
   module _ (out : List ℕ) (at i : ℕ) (left : Left numbers s before out at i) where
     pub left_end : min (numbered_count numbers) most_avps ≤ i → out ≡ sets before header_size (numbered_list numbers s)
     left_end h = sym (ap (sets out at) (list_end numbers s i h)) ∙ left.same

@@ -7,9 +7,11 @@ ghost use Rattle.draft.specs.Drafts.{draft_cell, header_for};
 ghost use Rattle.encoding.specs.Promise.{IsPut, CanPut, CanPutAll, numbered_list};
 
 use crate::flags;
+use numbers::Numbers;
 use rules::{Avp, limits};
 
-// An AVP's header, with the vendor where it is not 0.
+// An AVP's header, with the vendor where it is not 0: that case puts more, so each has its size here. Output and place
+// are two arguments and the place behind comes back: `IsPut` speaks of each.
 fn put_header(out: &mut [u8], at: usize, a: Avp) -> usize
     requires { at + header_for a ≤ length out.old }
     ensures { (s : List ℕ) → IsPut out.old at (avp_header (draft_cell s a)) out.new result }
@@ -46,15 +48,12 @@ fn put_avp(out: &mut [u8], at: usize, a: Avp, s: &[u8]) -> usize
     data + padded
 }
 
-pub(crate) fn put_list(out: &mut [u8], numbers: &[u32; limits::RECORD_NUMBERS], s: &[u8])
+pub(crate) fn put_list(out: &mut [u8], numbers: &Numbers, s: &[u8])
     requires { CanPutAll out.old numbers.now s.now }
     ensures { out.new ≡ sets out.old header_size (numbered_list numbers.now s.now) }
 {
-    let used = numbers::used(numbers);
     let mut at = limits::HEADER_SIZE;
-    let mut i: usize = 0;
-    while i < used {
-        at = put_avp(out, at, numbers::get(numbers, i), s);
-        i += 1;
+    for position in 0..numbers::used(numbers) {
+        at = put_avp(out, at, numbers::get(numbers, position), s);
     }
 }

@@ -6,18 +6,17 @@ ghost use Rattle.numbers.specs.Numbers.{numbered_record};
 ghost use Rattle.draft.specs.Drafts.{draft_cell};
 ghost use Rattle.encoding.specs.Promise.{IsFlag};
 
+use numbers::Numbers;
 use rules::{Avp, flags, limits};
 
 fn flag(on: bool, value: u8) -> u8
     ensures { IsFlag on value result }
 {
-    if on {
-        return value;
-    }
-    0
+    if on { value } else { 0 }
 }
 
 // V, M, P; V is set exactly when the vendor is not 0.
+#[tactic(auto, unfolding(rules::specs::Wire::avp_flags))]
 pub(crate) fn avp_flags(a: Avp) -> u8
     ensures { (s : List ℕ) → result ≡ avp_flags (draft_cell s a) }
 {
@@ -27,7 +26,8 @@ pub(crate) fn avp_flags(a: Avp) -> u8
 }
 
 // R, P, E, T.
-pub(crate) fn command_flags(numbers: &[u32; limits::RECORD_NUMBERS]) -> u8
+#[tactic(auto, unfolding(rules::specs::Wire::flags_octet))]
+pub(crate) fn command_flags(numbers: &Numbers) -> u8
     ensures { (s : List ℕ) → result ≡ flags_octet (draft_meaning (draft_of (numbered_record numbers.now) s)) }
 {
     let head = numbers::head_of(numbers);

@@ -5,10 +5,11 @@ ghost use Rattle.numbers.specs.Numbers.{numbered_record};
 ghost use Rattle.encoding.specs.Promise.{IsStart, identified};
 
 use crate::flags;
+use numbers::Numbers;
 use rules::limits;
 
 // Version, length, flags and command code, for a command of this size.
-pub(crate) fn put_start(out: &mut [u8], numbers: &[u32; limits::RECORD_NUMBERS], size: usize)
+pub(crate) fn put_start(out: &mut [u8], numbers: &Numbers, size: usize)
     requires { header_size ≤ length out.old }
     ensures { IsStart out.old numbers.now size out.new }
 {
@@ -19,7 +20,7 @@ pub(crate) fn put_start(out: &mut [u8], numbers: &[u32; limits::RECORD_NUMBERS],
 }
 
 // Application and identifiers, behind the start.
-pub(crate) fn put_identifiers(out: &mut [u8], numbers: &[u32; limits::RECORD_NUMBERS])
+pub(crate) fn put_identifiers(out: &mut [u8], numbers: &Numbers)
     requires { header_size ≤ length out.old }
     ensures { out.new ≡ identified out.old (numbered_record numbers.now) }
 {

@@ -4,41 +4,30 @@
 
 ghost use Rattle.std.specs.Prelude.{◌≡◌};
 ghost use Rattle.std.proofs.lemmas.List.Edits.{sets};
+ghost use Rattle.rules.specs.Verdict.{verdict};
 ghost use Rattle.numbers.specs.Draft.{numbered_draft};
-ghost use Rattle.encoding.specs.Encoding.{not_encoded, IsEncoded};
+ghost use Rattle.encoding.specs.Encoding.{IsEncoded};
 ghost use Rattle.encoding.specs.Promise.{CanPutCommand, numbered_command};
 
-use rules::{Outcome, Verdict, limits};
+use numbers::Numbers;
+use rules::{Verdict, limits};
 
 mod avps;
 mod flags;
 mod header;
 
-// What encoding a draft gives: the outcome of the writer's own tests, and the octets of the command, none with a
-// refusal.
-#[derive(Drop)]
-pub struct Encoded {
-    pub outcome: Outcome,
-    pub size: usize,
-}
-
 // A refusal of the writer's own: place, vendor and code are 0.
-fn refusal(number: u32) -> Encoded
-    ensures { result ≡ not_encoded number }
+fn refusal(number: u32) -> Verdict
+    ensures { result ≡ verdict number 0 0 0 }
 {
-    Encoded {
-        outcome: Outcome::Refused(Verdict {
-            number,
-            place: 0,
-            vendor: 0,
-            code: 0,
-        }),
-        size: 0,
+    Verdict {
+        number,
+        ..Verdict::default()
     }
 }
 
 // The command of a draft, of this size.
-fn put_command(out: &mut [u8], numbers: &[u32; limits::RECORD_NUMBERS], s: &[u8], size: usize)
+fn put_command(out: &mut [u8], numbers: &Numbers, s: &[u8], size: usize)
     requires { CanPutCommand out.old numbers.now s.now size }
     ensures { out.new ≡ sets out.old 0 (numbered_command numbers.now s.now) }
 {
@@ -47,28 +36,26 @@ fn put_command(out: &mut [u8], numbers: &[u32; limits::RECORD_NUMBERS], s: &[u8]
     avps::put_list(out, numbers, s);
 }
 
-// The draft of numbers and octets, encoded for an output of this room.
+// The draft of numbers and octets, encoded for an output of this room: how many octets its command has, which then
+// stand at the start of the array; or the writer's own refusal, and the array stays as it was.
 pub fn encode(
-    numbers: &[u32; limits::RECORD_NUMBERS],
+    numbers: &Numbers,
     s: &[u8],
     room: usize,
     command: &mut [u8; limits::LONGEST_COMMAND],
-) -> Encoded
+) -> Result<usize, Verdict>
     ensures { IsEncoded (numbered_draft numbers.now s.now) room command.old result command.new }
 {
     if !draft::is_well_formed(numbers, s) {
-        return refusal(7006);
+        return Err(refusal(7006));
     }
     let size = draft::command_size(numbers);
-    if limits::LONGEST_COMMAND < size {
-        return refusal(7001);
+    if size > limits::LONGEST_COMMAND {
+        return Err(refusal(7001));
     }
-    if room < size {
-        return refusal(7004);
+    if size > room {
+        return Err(refusal(7004));
     }
     put_command(command, numbers, s, size);
-    Encoded {
-        outcome: Outcome::Pass,
-        size,
-    }
+    Ok(size)
 }

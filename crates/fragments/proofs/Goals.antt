@@ -4,39 +4,24 @@ use mathlib.Core.Bool.{true, false}
 use mathlib.Core.List.{List, ◌++◌}
 use Prim.Native.Nat.{ℕ, ◌≤◌, ◌<◌}
 use native.Mathlib.Omega.{arith}
-use borrow.Author.Tests.{lt-ltb, le-ltb, le-leb, lt-leb, ltb-true, ltb-false, leb-true}
+use borrow.Author.Tests.{le-leb, lt-leb, ltb-true, ltb-false, leb-true}
 use lib.Dec.{ltb, leb}
 use lib.ListN.{length, take, length-append}
 use lib.Seq.{take-append_seam}
-use Rattle.rules.specs.Verdict.{verdict}
 use Rattle.rules.specs.Header.{header_size, length_field, longest_command}
 use Rattle.rules.proofs.Octets.{number_at_part}
 use Rattle.rules.proofs.Tests.{and_true}
 use Rattle.rules.proofs.Walk.{by_cases}
-use Rattle.fragments.specs.Link.{field_end, is_length, goal, length_refusal}
+use Rattle.fragments.specs.Link.{field_end, is_length, goal}
 
 -- ---- the length field
 
 module _ (n : ℕ) where
-  pub length-under : n < header_size → is_length n ≡ false
-  unfolding is_length
-  length-under h = rw (lt-leb header_size n h)
-
-  pub length_from : header_size ≤ n → is_length n ≡ leb n longest_command
-  unfolding is_length
-  length_from h = rw (le-leb header_size n h)
-
   pub length-bounds : is_length n ≡ true → (header_size ≤ n) × (n ≤ longest_command)
   unfolding is_length
   length-bounds e =
       let x = and_true (leb header_size n) (leb n longest_command) e in
       (leb-true _ _ x.0, leb-true _ _ x.1)
-
-  pub refusal_under : n < header_size → length_refusal n ≡ verdict 5015 1 0 0
-  refusal_under h = rw (lt-ltb n header_size h)
-
-  pub refusal_above : header_size ≤ n → length_refusal n ≡ verdict 7001 1 0 0
-  refusal_above h = rw (le-ltb n header_size h)
 
 -- four octets settle it: those of a start have the length field of the whole
 pub field_of_start : (n : ℕ) (s : List ℕ) → field_end ≤ n → n ≤ length s → length_field (take n s) ≡ length_field s

@@ -38,10 +38,6 @@ module _ (st : State) (buffer : List ℕ) where
     unfolding is_usable
     usable_field four e = rw (eq-eqb st.stopped 0 going, le-ltb st.held field_end four, e)
 
-    pub usable_refused : field_end ≤ st.held → is_length (length_field buffer) ≡ false → is_usable st buffer ≡ false
-    unfolding is_usable
-    usable_refused four e = rw (eq-eqb st.stopped 0 going, le-ltb st.held field_end four, e)
-
 -- ---- by the goal
 
 -- the octets that such a state holds lie in the buffer, short of their goal

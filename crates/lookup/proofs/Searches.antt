@@ -1,5 +1,6 @@
 -- Laws of a search AVP by AVP: what the next one makes of it, and what it gives among those of a record.
 use mathlib.Core.Path.{◌≡◌, refl, sym, ap, ◌∙◌}
+use Rattle.std.specs.Prelude.{Option, Some, None}
 use mathlib.Core.List.{List, [], ◌∷◌, ◌++◌, append-nil}
 use mathlib.Core.Bool.{Bool, true, false}
 use Prim.Native.Nat.{ℕ, ◌+◌, ◌≤◌, ◌<◌, min}
@@ -9,8 +10,6 @@ use native.Mathlib.Omega.{arith}
 use lib.ListN.{length, take, length-append}
 use lib.Seq.{take-suc, take_all, length-take-le}
 use Rattle.rules.specs.declared.Avp.{Avp}
-use Rattle.rules.specs.declared.Found.{Found}
-use Rattle.rules.specs.declared.Found.TheVariants.{At, Nothing}
 use Rattle.rules.specs.declared.Record.{Record}
 use Rattle.rules.specs.declared.Sought.{Sought}
 use Rattle.rules.specs.Walk.{most_avps}
@@ -24,12 +23,12 @@ use Rattle.lookup.specs.Promise.{IsSought, SoughtNext}
 
 -- ---- the answer
 
-position_room : (xs : List Avp) (vendor code ordinal : ℕ) → length xs ≤ most_avps → (f : Found)
+position_room : (xs : List Avp) (vendor code ordinal : ℕ) → length xs ≤ most_avps → (f : Option ℕ)
     → (search xs vendor code ordinal).found ≡ f → position_of f ≤ most_avps
-position_room xs vendor code ordinal few (At i) e =
+position_room xs vendor code ordinal few (Some i) e =
     let h = ((search_nth xs vendor code ordinal i).0 e).within in
     omega arith
-position_room xs vendor code ordinal few Nothing e = omega arith
+position_room xs vendor code ordinal few None e = omega arith
 
 pub is_sought : (r : Record) (vendor code ordinal : ℕ) → length (recorded r) ≤ most_avps → (sought : Sought)
     → sought ≡ search_record r vendor code ordinal → IsSought r vendor code ordinal sought
@@ -52,7 +51,7 @@ module _ (xs : List Avp) (a : Avp) (vendor code ordinal : ℕ) where
   after : (own : Bool) → is_at a 1 vendor code ≡ own → positions (xs ++ (a ∷ [])) vendor code ≡ before ++ with_position own (length xs) []
   after own e = positions_more xs 0 1 a vendor code ∙ rw (e, zero-add (length xs))
 
-  sought : (is : List ℕ) (found : Found) (number : ℕ) → positions (xs ++ (a ∷ [])) vendor code ≡ is
+  sought : (is : List ℕ) (found : Option ℕ) (number : ℕ) → positions (xs ++ (a ∷ [])) vendor code ≡ is
       → nth is ordinal ≡ found → length is ≡ number
       → search (xs ++ (a ∷ [])) vendor code ordinal ≡ record { found = found; number = number }
   sought is found number e f n = rw (e, f, n)
@@ -66,13 +65,40 @@ module _ (xs : List Avp) (a : Avp) (vendor code ordinal : ℕ) where
     one_more = length-append before (length xs ∷ [])
 
     pub search_here : length before ≡ ordinal
-        → search (xs ++ (a ∷ [])) vendor code ordinal ≡ record { found = At (length xs); number = length before + 1 }
+        → search (xs ++ (a ∷ [])) vendor code ordinal ≡ record { found = Some (length xs); number = length before + 1 }
     search_here e = sought _ _ _ (after true own) (rw (← e) (nth_last before (length xs))) one_more
 
     pub search_past : (length before ≡ ordinal → ⊥)
         → search (xs ++ (a ∷ [])) vendor code ordinal
         ≡ record { found = (search xs vendor code ordinal).found; number = length before + 1 }
     search_past n = sought _ _ _ (after true own) (nth_before before (length xs) ordinal n) one_more
+
+-- ---- from any AVPs to those with one more behind them: nothing, the one that the ordinal says, or another of them
+
+-- what a search gives once it has counted one more
+abbrev pub counted : Option ℕ → ℕ → Sought
+counted found so_far = record { found = found; number = so_far + 1 }
+
+counted_same : {f g : Option ℕ} {n m : ℕ} → f ≡ g → n ≡ m → counted f n ≡ counted g m
+counted_same e f = rw (e, f)
+
+module _ (before : Sought) (a : Avp) (position vendor code ordinal : ℕ) where
+  pub next_other : is_at a 1 vendor code ≡ false → SoughtNext before a position vendor code ordinal before
+  next_other other xs long e = e ∙ sym (search_other xs a vendor code ordinal other)
+
+  module _ (own : is_at a 1 vendor code ≡ true) where
+    pub next_here : before.number ≡ ordinal
+        → SoughtNext before a position vendor code ordinal (counted (Some position) before.number)
+    next_here here xs long e =
+        let number = ap (λ (s : Sought). s.number) e in
+        counted_same (ap Some (sym long)) number ∙ sym (search_here xs a vendor code ordinal own (sym number ∙ here))
+
+    pub next_past : (before.number ≡ ordinal → ⊥)
+        → SoughtNext before a position vendor code ordinal (counted before.found before.number)
+    next_past past xs long e =
+        let number = ap (λ (s : Sought). s.number) e in
+        counted_same (ap (λ (s : Sought). s.found) e) number
+        ∙ sym (search_past xs a vendor code ordinal own (λ n. past (number ∙ n)))
 
 -- ---- AVP by AVP
 
@@ -81,7 +107,7 @@ module _ (numbers : List ℕ) (vendor code ordinal : ℕ) where
   abbrev pub sought_before : ℕ → Sought
   sought_before i = search (take i (numbered_used numbers)) vendor code ordinal
 
-  pub sought_none : record { found = Nothing; number = 0 } ≡ sought_before 0
+  pub sought_none : record { found = None; number = 0 } ≡ sought_before 0
   sought_none = rw (positions_none 0 0 1 vendor code)
 
   module _ (i : ℕ) (h : i < min (numbered_count numbers) most_avps) where

@@ -1,16 +1,19 @@
 -- Laws of a record as numbers: in room for 256 AVPs, all 0 for the empty record, and read back.
 use mathlib.Core.Path.{◌≡◌, refl, sym, ap, ◌∙◌}
+use Rattle.std.specs.Prelude.{Err}
+use Rattle.rules.specs.Verdict.{Outcome}
 use mathlib.Core.List.{List, [], ◌∷◌, ◌++◌, map}
 use Prim.Native.Nat.{ℕ, zero, suc, ◌+◌, ◌-◌, ◌≤◌, ◌<◌}
 use native.Mathlib.Nat.{add-zero}
 use native.Mathlib.Omega.{arith}
+use mathlib.Core.Bool.{Bool, false}
+use lib.Dec.{lit≤}
 use lib.ListN.{length, get_or, drop, replicate, length-append, length-map, length-replicate, get_or-eq_default}
-use lib.Seq.{drop-drop, get_or-drop}
+use lib.Seq.{drop-drop, get_or-drop, get_or-take}
+use borrow.Rule.Slice.PartMut.{mid_of}
 use Rattle.rules.specs.declared.Avp.{Avp}
 use Rattle.rules.specs.declared.Record.{Record}
 use Rattle.rules.specs.declared.Verdict.{Verdict}
-use Rattle.rules.specs.declared.Outcome.{Outcome}
-use Rattle.rules.specs.declared.Outcome.TheVariants.{Refused}
 use Rattle.rules.specs.Walk.{most_avps}
 use Rattle.rules.specs.Search.{blank, avp_in}
 use Rattle.rules.specs.Command.{command_outcome}
@@ -27,6 +30,45 @@ avp_out numbers i e h =
     let first : get_or numbers (numbered_place i) 0 ≡ 0 = get_or-eq_default numbers 0 (omega arith) in
     rw (first, none 1, none 2, none 3, none 4, none 5, none 6)
 
+abbrev avp_by : ℕ → ℕ → ℕ → Bool → Bool → ℕ → ℕ → Avp
+avp_by depth vendor code m p start length = record {
+  depth = depth;
+  vendor = vendor;
+  code = code;
+  m = m;
+  p = p;
+  start = start;
+  length = length;
+}
+
+avp_blank : {depth vendor code start length : ℕ} {m p : Bool} → depth ≡ 0 → vendor ≡ 0 → code ≡ 0 → m ≡ false → p ≡ false → start ≡ 0
+    → length ≡ 0 → avp_by depth vendor code m p start length ≡ blank
+avp_blank e f g h i j k = rw (e, f, g, h, i, j, k)
+
+-- an AVP that is all 0, field by field
+pub all_zero : (a : Avp)
+    → (a.depth ≡ 0) × ((a.vendor ≡ 0) × ((a.code ≡ 0) × ((a.m ≡ false) × ((a.p ≡ false) × ((a.start ≡ 0) × (a.length ≡ 0))))))
+    → a ≡ blank
+all_zero a e = avp_blank e.0 e.1.0 e.1.1.0 e.1.1.1.0 e.1.1.1.1.0 e.1.1.1.1.1.0 e.1.1.1.1.1.1
+
+-- ---- the AVP of a part
+
+part_at : (l : List ℕ) (at k j : ℕ) → j < k → get_or (mid_of at k l) j 0 ≡ get_or l (at + j) 0
+part_at l at k j h = get_or-take k (drop at l) j 0 h ∙ get_or-drop at l j 0
+
+-- the seven numbers of a position, read from the part that they are
+pub avp_part : (numbers : List ℕ) (i k : ℕ) → 7 ≡ k →
+    let part = mid_of (numbered_place i) k numbers in
+    numbered_avp_from part 0 ≡ numbered_avp numbers i
+unfolding numbered_avp
+avp_part numbers i k e =
+    let at = numbered_place i in
+    let here : (j : ℕ) → j < 7 → get_or (mid_of at k numbers) j 0 ≡ get_or numbers (at + j) 0 =
+    λ j h. part_at numbers at k j (omega arith) in
+    let none = add-zero at in
+    rw (here 0 (lit≤ tt), here 1 (lit≤ tt), here 2 (lit≤ tt), here 3 (lit≤ tt), here 4 (lit≤ tt), here 5 (lit≤ tt), here 6 (lit≤ tt))
+    (rw none)
+
 -- ---- in room for 256
 
 -- the length of a list, from that of its image: what owning an array tells is said of an image
@@ -40,12 +82,12 @@ room_full xs few =
 
 -- ---- all 0
 
-numbers_empty : numbers_of empty_record ≡ replicate record_numbers 0
+pub numbers_empty : numbers_of empty_record ≡ replicate record_numbers 0
 unfolding numbers_of avps_numbers empty_record
 numbers_empty = refl
 
 -- with a refusal all numbers are 0
-pub numbers_refused : (s : List ℕ) (v : Verdict) → command_outcome s ≡ Refused v → numbers_of (reading s).«record» ≡ replicate record_numbers 0
+pub numbers_refused : (s : List ℕ) (v : Verdict) → command_outcome s ≡ Err v → numbers_of (reading s).«record» ≡ replicate record_numbers 0
 unfolding reading
 numbers_refused s v e = ap (λ (o : Outcome). numbers_of (record_by s o)) e ∙ numbers_empty
 

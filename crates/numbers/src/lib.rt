@@ -1,23 +1,28 @@
-// A record as numbers in a lent array: written whole, also straight from a command and its log, and read place by
-// place, so that no record is made to write a command's numbers or to read one AVP.
+// A record as numbers in a lent array, its form in the C interface: written whole, also straight from a command and its
+// log, and read place by place, so that no record is made to write a command's numbers or to read one AVP.
 #![tactic(auto)]
 
-ghost use Rattle.std.specs.Prelude.{◌≡◌, [], ◌-◌, ◌≤◌, ◌<◌, min, length, replicate};
+ghost use Rattle.std.specs.Prelude.{◌≡◌, [], ◌-◌, ◌<◌, min, length};
 ghost use Rattle.std.proofs.lemmas.List.Edits.{sets};
 ghost use Rattle.rules.specs.Header.{command_flags};
 ghost use Rattle.rules.specs.Search.{blank};
 ghost use Rattle.rules.specs.Walk.{most_avps};
 ghost use Rattle.rules.specs.Record.{record_of, empty_record};
 ghost use Rattle.walk_log.specs.Log.{avps_in};
-ghost use Rattle.numbers.specs.Numbers.{head_of, head_numbers, avp_numbers, put_avps, numbers_of, record_numbers};
+ghost use Rattle.numbers.specs.Numbers.{head_of, head_numbers, avp_numbers, numbers_of};
 ghost use Rattle.numbers.specs.Numbers.{numbered_place, numbered_avp, numbered_count, numbered_head};
 ghost use Rattle.numbers.specs.Flags.{head_flags_fit, avp_flags_fit, flags_fit};
 
 use octets::has_flag;
 use rules::{Avp, Record, flags, limits};
+use walk_log::Log;
 
-// The command's part of a record: its flags and identifiers.
-#[derive(Drop)]
+// The C interface spells this type out.
+pub type Numbers = [u32; limits::RECORD_NUMBERS];
+
+// The command's part of a record: its flags and identifiers. A Record has these fields itself, since README and
+// `record_of` (rules/specs/Record) name them.
+#[derive(Clone, Copy, Debug, PartialEq, Eq)]
 pub struct Head {
     pub r: bool,
     pub p: bool,
@@ -27,50 +32,56 @@ pub struct Head {
     pub end_to_end: u32,
 }
 
-fn slice_size(numbers: &[u32]) -> usize
-    ensures { result ≡ length numbers.now }
-{
-    numbers.len()
-}
+// Where the count stands, and the numbers of an AVP behind its first, the depth.
+const COUNT: usize = 6;
 
-// A proof takes from here that what the array holds is as long as its type says.
-fn size(numbers: &[u32; limits::RECORD_NUMBERS]) -> usize
-    ensures { (result ≡ record_numbers) × (length numbers.now ≡ record_numbers) }
-{
-    slice_size(numbers)
-}
+const VENDOR: usize = 1;
 
-fn put_head(numbers: &mut [u32; limits::RECORD_NUMBERS], head: Head, count: u32)
+const CODE: usize = 2;
+
+const M: usize = 3;
+
+const P: usize = 4;
+
+const START: usize = 5;
+
+const LENGTH: usize = 6;
+
+fn put_head(numbers: &mut Numbers, head: Head, count: u32)
     ensures { numbers.new ≡ sets numbers.old 0 (head_numbers head count) }
 {
-    numbers[0] = walk_log::bit_of(head.r);
-    numbers[1] = walk_log::bit_of(head.p);
-    numbers[2] = walk_log::bit_of(head.e);
-    numbers[3] = walk_log::bit_of(head.t);
-    numbers[4] = head.hop_by_hop;
-    numbers[5] = head.end_to_end;
-    numbers[6] = count;
+    numbers[..limits::HEAD_NUMBERS].copy_from_slice(&[
+        u32::from(head.r),
+        u32::from(head.p),
+        u32::from(head.e),
+        u32::from(head.t),
+        head.hop_by_hop,
+        head.end_to_end,
+        count,
+    ]);
 }
 
-fn put_avp(numbers: &mut [u32; limits::RECORD_NUMBERS], position: usize, a: Avp)
+// The C interface has the length in the last place. Stored number by number: as one part by `copy_from_slice` it was
+// tried, and slower by 48 instructions an AVP. Each position comes from a `for`: a type for one below 256 would be made
+// and taken apart at each call.
+fn put_avp(numbers: &mut Numbers, position: usize, a: Avp)
     requires { position < most_avps }
     ensures { numbers.new ≡ sets numbers.old (numbered_place position) (avp_numbers a) }
 {
     let at = position * limits::AVP_NUMBERS + limits::HEAD_NUMBERS;
     numbers[at] = a.depth;
-    numbers[at + 1] = a.vendor;
-    numbers[at + 2] = a.code;
-    numbers[at + 3] = walk_log::bit_of(a.m);
-    numbers[at + 4] = walk_log::bit_of(a.p);
-    numbers[at + 5] = a.start;
-    numbers[at + 6] = a.length;
+    numbers[at + VENDOR] = a.vendor;
+    numbers[at + CODE] = a.code;
+    numbers[at + M] = u32::from(a.m);
+    numbers[at + P] = u32::from(a.p);
+    numbers[at + START] = a.start;
+    numbers[at + LENGTH] = a.length;
 }
 
 // The numbers of a record.
-pub fn put(numbers: &mut [u32; limits::RECORD_NUMBERS], record: Record)
+pub fn put(numbers: &mut Numbers, record: Record)
     ensures { numbers.new ≡ numbers_of «record» }
 {
-    size(numbers);
     let head = Head {
         r: record.r,
         p: record.p,
@@ -80,37 +91,8 @@ pub fn put(numbers: &mut [u32; limits::RECORD_NUMBERS], record: Record)
         end_to_end: record.end_to_end,
     };
     put_head(numbers, head, record.count);
-    let mut i: usize = 0;
-    while i < limits::MOST_AVPS {
-        put_avp(numbers, i, record.avps[i]);
-        i += 1;
-    }
-}
-
-// The AVPs of a log.
-fn put_logged(
-    numbers: &mut [u32; limits::RECORD_NUMBERS],
-    log: &[u32; limits::LOG_NUMBERS],
-    count: usize,
-)
-    requires { count ≤ most_avps }
-    ensures { numbers.new ≡ put_avps numbers.old 0 (avps_in log.now count) }
-{
-    let mut i: usize = 0;
-    while i < count {
-        put_avp(numbers, i, walk_log::get(log, i));
-        i += 1;
-    }
-}
-
-// 0 at each position from `start` on.
-fn put_blanks(numbers: &mut [u32; limits::RECORD_NUMBERS], start: usize)
-    ensures { numbers.new ≡ put_avps numbers.old start (replicate (most_avps - start) blank) }
-{
-    let mut unused = start;
-    while unused < limits::MOST_AVPS {
-        put_avp(numbers, unused, avp::blank());
-        unused += 1;
+    for (position, &a) in record.avps.iter().enumerate() {
+        put_avp(numbers, position, a);
     }
 }
 
@@ -118,10 +100,7 @@ fn put_blanks(numbers: &mut [u32; limits::RECORD_NUMBERS], start: usize)
 fn flags_of(s: &[u8]) -> u8
     ensures { result ≡ command_flags s.now }
 {
-    if s.len() <= 4 {
-        return 0;
-    }
-    s[4]
+    s.get(4).copied().unwrap_or(0)
 }
 
 // The command's part of its record, whatever AVPs it has.
@@ -140,131 +119,97 @@ fn head_in(s: &[u8]) -> Head
 }
 
 // The record of a command whose AVPs stand in a log; a count above 256 is read as 256. No record is made on the way.
-pub fn put_command(
-    numbers: &mut [u32; limits::RECORD_NUMBERS],
-    s: &[u8],
-    log: &[u32; limits::LOG_NUMBERS],
-    count: usize,
-)
+pub fn put_command(numbers: &mut Numbers, s: &[u8], log: &Log, count: usize)
     ensures { numbers.new ≡ numbers_of (record_of s.now (avps_in log.now count)) }
 {
-    size(numbers);
     let used = walk_log::used(count);
+    put_empty(numbers);
     put_head(numbers, head_in(s), used as u32);
-    put_logged(numbers, log, used);
-    put_blanks(numbers, used);
+    for position in 0..used {
+        put_avp(numbers, position, walk_log::get(log, position));
+    }
 }
 
 // The empty record.
-pub fn put_empty(numbers: &mut [u32; limits::RECORD_NUMBERS])
+pub fn put_empty(numbers: &mut Numbers)
     ensures { numbers.new ≡ numbers_of empty_record }
 {
-    size(numbers);
-    let head = Head {
-        r: false,
-        p: false,
-        e: false,
-        t: false,
-        hop_by_hop: 0,
-        end_to_end: 0,
-    };
-    put_head(numbers, head, 0);
-    put_blanks(numbers, 0);
-}
-
-fn wide(x: u32) -> usize
-    ensures { result ≡ x }
-{
-    x as usize
+    numbers.fill(0);
 }
 
 // The count as it stands.
-pub fn count(numbers: &[u32; limits::RECORD_NUMBERS]) -> usize
+pub fn count(numbers: &Numbers) -> usize
     ensures { result ≡ numbered_count numbers.now }
 {
-    wide(numbers[6])
+    numbers[COUNT] as usize
 }
 
 // How many positions are used; a count above 256 is read as 256.
-pub fn used(numbers: &[u32; limits::RECORD_NUMBERS]) -> usize
+pub fn used(numbers: &Numbers) -> usize
     ensures { result ≡ min (numbered_count numbers.now) most_avps }
 {
     walk_log::used(count(numbers))
 }
 
 // The AVP at a position, the blank one from 256 on.
-pub fn get(numbers: &[u32; limits::RECORD_NUMBERS], position: usize) -> Avp
+pub fn get(numbers: &Numbers, position: usize) -> Avp
     ensures { result ≡ numbered_avp numbers.now position }
 {
-    size(numbers);
-    if limits::MOST_AVPS <= position {
-        return avp::blank();
+    if position >= limits::MOST_AVPS {
+        return Avp::default();
     }
     let at = position * limits::AVP_NUMBERS + limits::HEAD_NUMBERS;
+    let &[depth, vendor, code, m, p, start, length] = &numbers[at..at + limits::AVP_NUMBERS] else {
+        unreachable!()
+    };
     Avp {
-        depth: numbers[at],
-        vendor: numbers[at + 1],
-        code: numbers[at + 2],
-        m: numbers[at + 3] == 1,
-        p: numbers[at + 4] == 1,
-        start: numbers[at + 5],
-        length: numbers[at + 6],
+        depth,
+        vendor,
+        code,
+        m: m == 1,
+        p: p == 1,
+        start,
+        length,
     }
 }
 
 // The command's flags and identifiers.
-pub fn head_of(numbers: &[u32; limits::RECORD_NUMBERS]) -> Head
+#[tactic(auto, unfolding(crate::specs::Numbers::numbered_record))]
+pub fn head_of(numbers: &Numbers) -> Head
     ensures { result ≡ numbered_head numbers.now }
 {
+    let &[r, p, e, t, hop_by_hop, end_to_end, ..] = numbers;
     Head {
-        r: numbers[0] == 1,
-        p: numbers[1] == 1,
-        e: numbers[2] == 1,
-        t: numbers[3] == 1,
-        hop_by_hop: numbers[4],
-        end_to_end: numbers[5],
+        r: r == 1,
+        p: p == 1,
+        e: e == 1,
+        t: t == 1,
+        hop_by_hop,
+        end_to_end,
     }
 }
 
-fn head_flags_fit(numbers: &[u32; limits::RECORD_NUMBERS]) -> bool
+#[tactic(auto, unfolding(crate::specs::Flags::head_flags_fit))]
+fn head_flags_fit(numbers: &Numbers) -> bool
     ensures { result ≡ head_flags_fit numbers.now }
 {
-    if 1 < numbers[0] {
-        return false;
-    }
-    if 1 < numbers[1] {
-        return false;
-    }
-    if 1 < numbers[2] {
-        return false;
-    }
-    numbers[3] <= 1
+    let &[r, p, e, t, ..] = numbers;
+    r <= 1 && p <= 1 && e <= 1 && t <= 1
 }
 
-fn avp_flags_fit(numbers: &[u32; limits::RECORD_NUMBERS], position: usize) -> bool
+#[tactic(auto, unfolding(crate::specs::Flags::avp_flags_fit))]
+fn avp_flags_fit(numbers: &Numbers, position: usize) -> bool
     requires { position < most_avps }
     ensures { result ≡ avp_flags_fit numbers.now position }
 {
     let at = position * limits::AVP_NUMBERS + limits::HEAD_NUMBERS;
-    if 1 < numbers[at + 3] {
-        return false;
-    }
-    numbers[at + 4] <= 1
+    numbers[at + M] <= 1 && numbers[at + P] <= 1
 }
 
 // Whether each flag is 0 or 1.
-pub fn flags_fit(numbers: &[u32; limits::RECORD_NUMBERS]) -> bool
+pub fn flags_fit(numbers: &Numbers) -> bool
     ensures { result ≡ flags_fit numbers.now }
 {
-    if !head_flags_fit(numbers) {
-        return false;
-    }
-    let mut position: usize = 0;
-    while position < limits::MOST_AVPS {
-        if !avp_flags_fit(numbers, position) {
-            return false;
-        }
-        position += 1;
-    }
-    true
+    head_flags_fit(numbers)
+        && (0..limits::MOST_AVPS).all(|position| avp_flags_fit(numbers, position))
 }

@@ -1,35 +1,22 @@
--- `draft::are_blank` meets its contract. What is left to test at i is the whole test.
-use mathlib.Core.Path.{◌≡◌, sym, ◌∙◌}
-use mathlib.Core.Bool.{Bool, true, false, ◌&&◌}
-use Prim.Native.Nat.{◌+◌}
-use native.Mathlib.Omega.{arith}
+-- `draft::are_blank` meets its contract.
+use borrow.Author.Rules.{rules}
+use borrow.Author.Tests.{tests}
+use mathlib.Core.Path.{refl, ◌∙◌}
+use Prim.Native.Nat.{ℕ, ◌-◌}
 use lib.ListN.{drop}
-use Rattle.rules.specs.Draft.{all_blank}
-use Rattle.numbers.specs.Numbers.{numbered_record}
-use Rattle.draft.proofs.Positions.{blank_next, blank_end}
+use Rattle.std.proofs.lemmas.Iterator.{YieldsList-from_range}
+use Rattle.std.proofs.lemmas.Iterator.Search.{all_from_yields_List}
+use Rattle.rules.specs.Walk.{most_avps}
+use Rattle.rules.specs.Draft.{is_blank, all_blank}
+use Rattle.numbers.specs.Numbers.{numbered_avp, numbered_record}
+use Rattle.draft.proofs.Positions.{each_position, blank_next, blank_end}
 use Rattle.draft.proofs.are_blank.Goals as goal
-use Rattle.draft.proofs.are_blank.Goals.{After-is_blank}
-
--- the invariant, with what the test says of the AVP at the position
-next : (c : After-is_blank) (b : Bool) → c.is_blank.result ≡ b →
-    let l = c.loop-i in
-    let a = c.args in
-    (b && all_blank (drop (l.i + 1) (numbered_record a.numbers.now).avps))
-    ≡ all_blank (drop a.from (numbered_record a.numbers.now).avps)
-next c b e =
-    let l = c.loop-i in
-    let n = c.args.numbers.now in
-    rw (← e, c.is_blank.ensures, c.get.ensures)
-    (sym (blank_next n l.i (omega (arith, c.loop-i-test.true))) ∙ l.invariant)
-
-pub returns-then-not-is_blank : goal.returns-then-not-is_blank
-returns-then-not-is_blank c =
-    next (goal.at.returns-then-not-is_blank c).After-is_blank false c.if-not-is_blank.true
-
-pub loop-i-preserved : goal.loop-i-preserved
-loop-i-preserved c =
-    next (goal.at.loop-i-preserved c).After-is_blank true c.if-not-is_blank.false
 
 pub returns : goal.returns
 returns c =
-    sym (blank_end c.args.numbers.now c.loop-i.i (omega (arith, c.loop-i-test.false))) ∙ c.loop-i.invariant
+    let n = c.args.numbers.now in
+    let from = c.args.from in
+    all_from_yields_List (λ (i : ℕ). is_blank (numbered_avp n i)) _ _ _ c.all.ensures.ran
+    (YieldsList-from_range from most_avps (most_avps - from) refl refl) (λ x b q k. search (rules, tests))
+    ∙ each_position (λ i. is_blank (numbered_avp n i)) (λ i. all_blank (drop i (numbered_record n).avps)) most_avps
+    (blank_next n) (blank_end n) from (most_avps - from) refl

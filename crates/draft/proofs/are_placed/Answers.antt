@@ -1,41 +1,25 @@
--- `draft::are_placed` meets its contract. What is left to test at i is the whole test.
-use mathlib.Core.Path.{◌≡◌, sym, ◌∙◌}
-use mathlib.Core.Bool.{Bool, true, false, ◌&&◌}
-use Prim.Native.Nat.{◌+◌, ◌<◌, min}
-use native.Mathlib.Omega.{arith}
+-- `draft::are_placed` meets its contract.
+use borrow.Author.Rules.{rules}
+use borrow.Author.Tests.{tests}
+use mathlib.Core.Path.{refl, ◌∙◌}
+use Prim.Native.Nat.{ℕ, min}
 use lib.ListN.{drop}
+use native.Mathlib.Omega.{arith}
+use Rattle.std.proofs.lemmas.Iterator.{YieldsList-from_range}
+use Rattle.std.proofs.lemmas.Iterator.Search.{all_from_yields_List}
 use Rattle.rules.specs.Dictionary.{dictionary}
 use Rattle.rules.specs.Walk.{most_avps}
-use Rattle.rules.specs.Draft.{all_placed}
-use Rattle.numbers.specs.Numbers.{numbered_count, numbered_used}
-use Rattle.draft.proofs.Positions.{placed_next, placed_end}
+use Rattle.rules.specs.Draft.{is_placed, all_placed}
+use Rattle.numbers.specs.Numbers.{numbered_avp, numbered_used, numbered_count}
+use Rattle.draft.proofs.Positions.{each_position, placed_next, placed_end}
 use Rattle.draft.proofs.are_placed.Goals as goal
-use Rattle.draft.proofs.are_placed.Goals.{After-is_placed}
-
--- the invariant, with what the test says of the AVP at the position
-next : (c : After-is_placed) (b : Bool) → c.is_placed.result ≡ b →
-    let l = c.loop-i in
-    let a = c.args in
-    (b && all_placed dictionary a.size (drop (l.i + 1) (numbered_used a.numbers.now)))
-    ≡ all_placed dictionary a.size (numbered_used a.numbers.now)
-next c b e =
-    let l = c.loop-i in
-    let a = c.args in
-    let used : l.i < min (numbered_count a.numbers.now) most_avps = omega (arith, c.loop-i-test.true, l.invariant.0) in
-    rw (← e, c.is_placed.ensures, c.get.ensures)
-    (sym (placed_next a.numbers.now a.size l.i used) ∙ l.invariant.1)
-
-pub returns-then-not-is_placed : goal.returns-then-not-is_placed
-returns-then-not-is_placed c =
-    next (goal.at.returns-then-not-is_placed c).After-is_placed false c.if-not-is_placed.true
-
-pub loop-i-preserved : goal.loop-i-preserved
-loop-i-preserved c =
-    let l = c.loop-i in
-    (l.invariant.0, next (goal.at.loop-i-preserved c).After-is_placed true c.if-not-is_placed.false)
 
 pub returns : goal.returns
 returns c =
-    let end = placed_end c.args.numbers.now c.args.size c.loop-i.i
-    (omega (arith, c.loop-i-test.false, c.loop-i.invariant.0)) in
-    sym end ∙ c.loop-i.invariant.1
+    let n = c.args.numbers.now in
+    let size = c.args.size in
+    let used = c.used-used.result in
+    all_from_yields_List (λ (i : ℕ). is_placed dictionary size (numbered_avp n i)) _ _ _ c.all.ensures.ran
+    (YieldsList-from_range 0 used used refl (omega arith)) (λ x b q k. search (rules, tests))
+    ∙ each_position (λ i. is_placed dictionary size (numbered_avp n i)) (λ i. all_placed dictionary size (drop i (numbered_used n)))
+    (min (numbered_count n) most_avps) (placed_next n size) (placed_end n size) 0 used (omega (arith, c.used-used.ensures))

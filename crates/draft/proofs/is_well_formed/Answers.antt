@@ -10,7 +10,7 @@ returns-then-flags_fit c =
     let fit = sym c.flags_fit.ensures ∙ c.if-flags_fit.true in
     c.is_formed.ensures ∙ sym (ap is_well_formed (draft_fit a.numbers.now a.s.now fit))
 
-pub returns : goal.returns
-returns c =
+pub returns-else-flags_fit : goal.returns-else-flags_fit
+returns-else-flags_fit c =
     let a = c.args in
-    sym (draft_unfit a.numbers.now a.s.now (sym c.flags_fit.ensures ∙ c.if-flags_fit.false))
+    c.if-flags_fit.false ∙ sym (draft_unfit a.numbers.now a.s.now (sym c.flags_fit.ensures ∙ c.if-flags_fit.false))

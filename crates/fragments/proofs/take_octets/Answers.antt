@@ -42,10 +42,10 @@ fill-first-requires c =
 
 pub returns-then-begun-lt-FIELD_END : goal.returns-then-begun-lt-FIELD_END
 returns-then-begun-lt-FIELD_END c =
-    ends_short (begun c.requires c.fill-first.ensures) c.if-begun-lt-FIELD_END.true _ c.unfinished.ensures _
+    ends_short (begun c.requires c.fill-first.ensures) c.if-begun-lt-FIELD_END.true _ c.step_by.ensures _
 
-pub stopped-requires : goal.stopped-requires
-stopped-requires c = begun_below (begun c.requires c.fill-first.ensures)
+pub step_by-requires-then-not-is_length : goal.step_by-requires-then-not-is_length
+step_by-requires-then-not-is_length c = begun_below (begun c.requires c.fill-first.ensures)
 
 pub returns-then-not-is_length : goal.returns-then-not-is_length
 returns-then-not-is_length c =
@@ -53,7 +53,7 @@ returns-then-not-is_length c =
     let y : Stands x = stands x c.if-begun-lt-FIELD_END.false c.number3-length.ensures.is in
     let said = c.length_refusal.ensures in
     ends_refused x y (sym c.is_length.ensures ∙ c.if-not-is_length.true) _
-    (c.stopped.ensures ∙ ap (λ (v : Verdict). step_by x.first (x.held + x.first) (Refusal v)) said) _
+    (c.step_by-then-not-is_length.ensures ∙ ap (λ (v : Verdict). step_by x.first (x.held + x.first) (Refusal v)) said) _
 
 pub fill-requires : goal.fill-requires
 fill-requires c =
@@ -63,8 +63,8 @@ fill-requires c =
     let fits = command_fits x y e in
     (omega (arith, fits, begun_within x y e), fits)
 
-pub unfinished-requires-then-held-taken : goal.unfinished-requires-then-held-taken
-unfinished-requires-then-held-taken c =
+pub step_by-requires-then-held-taken : goal.step_by-requires-then-held-taken
+step_by-requires-then-held-taken c =
     omega (arith, length-bounds c.number3-length.result (sym c.is_length.ensures ∙ c.if-not-is_length.false), c.if-held-taken.true)
 
 pub returns-then-held-taken : goal.returns-then-held-taken
@@ -72,7 +72,7 @@ returns-then-held-taken c =
     let x : Begun = begun c.requires c.fill-first.ensures in
     let y : Stands x = stands x c.if-begun-lt-FIELD_END.false c.number3-length.ensures.is in
     ends_unfinished x y (resumed x y (sym c.is_length.ensures ∙ c.if-not-is_length.false) c.fill.ensures)
-    c.if-held-taken.true _ c.unfinished-then-held-taken.ensures _
+    c.if-held-taken.true _ c.step_by-then-held-taken.ensures _
 
 pub slice_bounds-verdict-end : goal.slice_bounds-verdict-end
 slice_bounds-verdict-end c =
@@ -91,4 +91,4 @@ returns c =
     let x : Begun = begun c.requires c.fill-first.ensures in
     let y : Stands x = stands x c.if-begun-lt-FIELD_END.false c.number3-length.ensures.is in
     ends_command x y (resumed x y (sym c.is_length.ensures ∙ c.if-not-is_length.false) c.fill.ensures)
-    c.if-held-taken.false _ _ _ c.verdict.ensures _ c.whole.ensures
+    c.if-held-taken.false _ _ _ c.verdict-verdict.ensures _ c.step_by-2.ensures

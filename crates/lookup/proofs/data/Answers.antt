@@ -9,36 +9,25 @@ use Rattle.rules.specs.Record.{data_start}
 use Rattle.lookup.proofs.Positions.{lies_unused, lies_outside, lies_inside, data_unused, data_outside, data_inside}
 use Rattle.lookup.proofs.data.Goals as goal
 
-pub returns-then-position-ge-MOST_AVPS-clause-place : goal.returns-then-position-ge-MOST_AVPS-clause-place
+pub returns-then-position-min-clause-place : goal.returns-then-position-min-clause-place
 unfolding data_start
-returns-then-position-ge-MOST_AVPS-clause-place c =
+returns-then-position-min-clause-place c =
     let a = c.args in
     rw (lies_unused a.record a.position (length a.s.now) (omega arith)) (omega arith)
 
-pub returns-then-position-ge-MOST_AVPS-clause-octets : goal.returns-then-position-ge-MOST_AVPS-clause-octets
-returns-then-position-ge-MOST_AVPS-clause-octets c =
+pub returns-then-position-min-clause-octets : goal.returns-then-position-min-clause-octets
+returns-then-position-min-clause-octets c =
     let a = c.args in
     sym (data_unused a.record a.position a.s.now (omega arith))
 
-pub returns-then-count-position-clause-place : goal.returns-then-count-position-clause-place
+pub returns-then-end-s-clause-place : goal.returns-then-end-s-clause-place
 unfolding data_start
-returns-then-count-position-clause-place c =
-    let a = c.args in
-    rw (lies_unused a.record a.position (length a.s.now) (omega arith)) (omega arith)
-
-pub returns-then-count-position-clause-octets : goal.returns-then-count-position-clause-octets
-returns-then-count-position-clause-octets c =
-    let a = c.args in
-    sym (data_unused a.record a.position a.s.now (omega arith))
-
-pub returns-then-s-end-clause-place : goal.returns-then-s-end-clause-place
-unfolding data_start
-returns-then-s-end-clause-place c =
+returns-then-end-s-clause-place c =
     let a = c.args in
     rw (lies_outside a.record a.position (length a.s.now) (omega arith) (omega arith)) (omega arith)
 
-pub returns-then-s-end-clause-octets : goal.returns-then-s-end-clause-octets
-returns-then-s-end-clause-octets c =
+pub returns-then-end-s-clause-octets : goal.returns-then-end-s-clause-octets
+returns-then-end-s-clause-octets c =
     let a = c.args in
     sym (data_outside a.record a.position a.s.now (omega arith) (omega arith))
 

@@ -1,15 +1,14 @@
 -- `numbers::get` meets its contract.
-use mathlib.Core.Path.{refl, sym, ◌∙◌}
-use Rattle.numbers.specs.Numbers.{numbered_avp}
-use Rattle.numbers.proofs.Numbers.{avp_out}
+use mathlib.Core.Path.{sym, ◌∙◌}
+use native.Mathlib.Omega.{arith}
+use Rattle.numbers.proofs.Numbers.{avp_out, all_zero, avp_part}
 use Rattle.numbers.proofs.get.Goals as goal
 
 pub returns-then-position-ge-MOST_AVPS : goal.returns-then-position-ge-MOST_AVPS
 returns-then-position-ge-MOST_AVPS c =
-    c.blank.ensures
-    ∙ sym (avp_out c.args.numbers.now c.args.position c.size-at.ensures.1 c.if-position-ge-MOST_AVPS.true)
+    all_zero c.default.result c.default.ensures
+    ∙ sym (avp_out c.args.numbers.now c.args.position c.told-numbers c.if-position-ge-MOST_AVPS.true)
 
 pub returns : goal.returns
-unfolding numbered_avp
 returns c =
-    refl
+    avp_part c.args.numbers.now c.args.position _ (omega arith)

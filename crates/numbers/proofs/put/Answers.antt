@@ -1,4 +1,4 @@
--- `numbers::put` meets its contract.
+-- `numbers::put` meets its contract. With the AVPs from a position on put, the numbers are those of the record.
 use borrow.Author.Rules.{rules}
 use mathlib.Core.Path.{◌≡◌, refl, sym, ap, ◌∙◌}
 use mathlib.Core.List.{List}
@@ -11,27 +11,19 @@ use Rattle.numbers.proofs.Numbers.{length-mapped}
 use Rattle.numbers.proofs.Puts.{put_next, put_end, put_whole}
 use Rattle.numbers.proofs.put.Goals as goal
 
-pub loop-i-init : goal.loop-i-init
-loop-i-init c =
+pub loop-position-init : goal.loop-position-init
+loop-position-init c =
     let a = c.args in
-    let full : length a.record.avps ≡ most_avps = search (rules, length-mapped) in (
-      omega arith,
-      ap (λ (l : List ℕ). put_avps l 0 a.record.avps) c.put_head.ensures
-          ∙ put_whole a.numbers.now c.size.ensures.1 a.record full,
-    )
+    let full : length a.record.avps ≡ most_avps = search (rules, length-mapped) in
+    ap (λ (l : List ℕ). put_avps l 0 a.record.avps) c.put_head.ensures
+    ∙ put_whole a.numbers.now c.told-numbers a.record full
 
-pub loop-i-preserved : goal.loop-i-preserved
-loop-i-preserved c =
-    let r = c.args.record in
-    let full : length r.avps ≡ most_avps = search (rules, length-mapped) in
-    let l = c.loop-i in (
-      omega arith,
-      put_next l.numbers l.i _ _ c.put_avp.ensures r.avps (rw full (omega arith)) refl ∙ l.invariant.1,
-    )
+pub loop-position-preserved : goal.loop-position-preserved
+loop-position-preserved c =
+    let l = c.loop-position in
+    put_next l.numbers l.position _ _ c.put_avp.ensures c.args.record.avps (omega arith) refl ∙ l.invariant
 
 pub returns : goal.returns
 returns c =
-    let r = c.args.record in
-    let full : length r.avps ≡ most_avps = search (rules, length-mapped) in
-    let l = c.loop-i in
-    sym (put_end l.numbers l.i r.avps (rw full (omega arith))) ∙ l.invariant.1
+    let l = c.loop-position in
+    sym (put_end l.numbers l.position c.args.record.avps (omega arith)) ∙ l.invariant

@@ -1,15 +1,9 @@
--- `numbers::put` meets its contract. With the AVPs from i on put, the numbers are those of the record.
+-- `numbers::put` meets its contract. With the AVPs from a position on put, the numbers are those of the record.
 use mathlib.Core.Path.{◌≡◌}
-use Prim.Native.Nat.{◌≤◌, ◌-◌}
 use lib.ListN.{drop}
-use Rattle.rules.specs.Walk.{most_avps}
 use Rattle.numbers.specs.Numbers.{numbers_of, put_avps}
 use Rattle.numbers.proofs.put.Given as goal
 
-abbrev pub invariant-loop-i : goal.invariant-loop-i
-invariant-loop-i l =
-    (l.i ≤ most_avps) × (put_avps l.numbers l.i (drop l.i l.record.avps) ≡ numbers_of l.record)
-
-abbrev pub decreases-loop-i : goal.decreases-loop-i
-decreases-loop-i l =
-    most_avps - l.i
+abbrev pub invariant-loop-position : goal.invariant-loop-position
+invariant-loop-position l =
+    put_avps l.numbers l.position (drop l.position l.fn.record.avps) ≡ numbers_of l.fn.record

@@ -1,18 +1,22 @@
 -- `boundary::link::numbered` meets its contract.
-use Rattle.boundary.proofs.Links.{numbered_by_lem}
+use mathlib.Core.Path.{◌≡◌, ap, ◌∙◌}
+use Prim.Native.Nat.{ℕ}
+use Rattle.rules.specs.declared.Verdict.{Verdict}
+use Rattle.boundary.specs.declared.link.LinkStep.{LinkStep}
+use Rattle.boundary.specs.Links.{progress_number, progress_verdict, link_step}
 use Rattle.boundary.proofs.link.numbered.Goals as goal
+use Rattle.boundary.proofs.link.numbered.Goals.{in-Unfinished, in-Command, in-Refusal}
 
-pub returns-in-Unfinished : goal.returns-in-Unfinished
-returns-in-Unfinished c =
+pub returns : goal.returns
+unfolding link_step
+returns c =
     let s = c.args.step in
-    rw c.no_verdict.ensures (numbered_by_lem s _ c.in-Unfinished.is)
-
-pub returns-in-Command : goal.returns-in-Command
-returns-in-Command c =
-    let s = c.args.step in
-    numbered_by_lem s _ c.in-Command.is
-
-pub returns-in-Refusal : goal.returns-in-Refusal
-returns-in-Refusal c =
-    let s = c.args.step in
-    numbered_by_lem s _ c.in-Refusal.is
+    let answer : ℕ × Verdict → LinkStep =
+    λ p. record { taken = s.taken; progress = p.0; verdict = p.1; state = s.state } in
+    let told : c.match-step.progress ≡ (progress_number s.progress, progress_verdict s.progress) =
+    elim c.match-step.branch [
+      | in-Unfinished w ↦ w.progress-is ∙ rw (w.in-Unfinished.is, w.no_verdict.ensures)
+      | in-Command w ↦ w.progress-is ∙ rw w.in-Command.is
+      | in-Refusal w ↦ w.progress-is ∙ rw w.in-Refusal.is
+    ] in
+    ap answer told
