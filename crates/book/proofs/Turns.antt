@@ -6,7 +6,6 @@ use Prim.Native.Nat.{ℕ, zero, suc, ◌+◌, ◌-◌, ◌*◌, ◌≤◌, ◌<�
 use native.Mathlib.Omega.{arith}
 use borrow.Author.Tests.{lt-leb, le-leb}
 use lib.ListN.{length}
-use lib.Seq.{length-sets}
 use lib.Dec.{eqb}
 use Rattle.rules.specs.declared.Verdict.{Verdict}
 use Rattle.rules.specs.Command.{command_verdict}
@@ -14,8 +13,8 @@ use Rattle.rules.specs.Lines.{command_line, cut_line, end_line}
 use Rattle.rules.specs.Book.{length_of, is_cut, is_book, command_in, acceptance, head_line, not_a_book, lines_from, listing, book_head}
 use Rattle.lines.specs.Promise.{Put, PutWithin}
 use Rattle.lines.proofs.Text.{joined}
-use Rattle.book.specs.Promise.{ListingPut, HeadPut, lines_of, room}
-use Rattle.book.proofs.Cuts.{whole, book_head_lem, book_size}
+use Rattle.book.specs.Promise.{ListingPut, HeadPut, Whole, lines_of, room}
+use Rattle.book.proofs.Cuts.{book_head_lem, book_size}
 
 -- ---- the lines from an offset on, with a bound that is enough
 
@@ -84,23 +83,25 @@ module _ {book before : List ℕ} {start : ℕ} where
           → Put before start (lines_of book) r after
       turn_cut e {r} {after} p = t.rest r after (rw (lines_cut book offset commands accepted t.bound t.enough more e) p)
 
-      pub next_turn : is_cut book offset ≡ false → {v : Verdict} → v ≡ command_verdict (command_in book offset)
+      pub next_turn : {command : List ℕ} → Whole book offset command → {v : Verdict} → v ≡ command_verdict command
           → length (command_line (commands + 1) offset v) ≤ 66
           → {r : ℕ} {after : List ℕ} → Put out at (command_line (commands + 1) offset v) r after
-          → LinesLeft book before start after r (offset + length_of book offset) (commands + 1) (accepted + acceptance v)
-      next_turn e {v} same short {r} {after} p =
-          let w = whole book offset e in
+          → {count : ℕ} → count ≡ acceptance v
+          → LinesLeft book before start after r (offset + length command) (commands + 1) (accepted + count)
+      next_turn {command} w {v} same short {r} {after} p {count} counted =
           let one : acceptance v ≤ 1 = acceptance_small v in
+          let here : v ≡ command_verdict (command_in book offset) = same ∙ ap command_verdict w.is in
           record {
-            inside = omega arith;
-            fits = omega (arith, p.next, short);
-            few = omega arith;
+            inside = w.inside;
+            fits = omega (arith, p.next, short, w.header);
+            few = omega (arith, w.header);
             passed = omega arith;
             bound = t.bound - 1;
-            enough = omega (arith, t.enough);
+            enough = omega (arith, t.enough, w.header);
             rest = λ r' after' q.
                 t.rest r' after'
-                (rw (lines_command book offset commands accepted t.bound t.enough more e, ← same) (joined p q));
+                (rw (lines_command book offset commands accepted t.bound t.enough more w.uncut, ← here, ← w.long, ← counted)
+                (joined p q));
           }
 
 -- ---- the whole listing
@@ -120,7 +121,3 @@ module _ (book before : List ℕ) {r : ℕ} {after : List ℕ} where
   listed e p q =
       let whole = joined p q.put in
       record { count = rw e (whole.next ∙ omega arith); octets = rw e whole.octets; within = omega (arith, p.next) }
-
--- the lent octets stay as many
-pub listed-length : {book before : List ℕ} {r : ℕ} {after : List ℕ} → ListingPut book before r after → length after ≡ length before
-listed-length {book} {before} l = ap length l.octets ∙ length-sets before 0 (listing book)

@@ -1,8 +1,8 @@
 -- What the functions of the listing promise. Those that put a part of it make the promises of `lines` for a piece of
 -- text.
-use Rattle.std.specs.Prelude.{◌≡◌, List, ℕ, ◌≤◌, length}
+use Rattle.std.specs.Prelude.{◌≡◌, false, List, ℕ, ◌+◌, ◌≤◌, length}
 use Rattle.std.proofs.lemmas.List.Edits.{sets}
-use Rattle.rules.specs.Book.{listing, lines_from, book_head, longest_book}
+use Rattle.rules.specs.Book.{length_of, is_cut, command_in, listing, lines_from, book_head, longest_book}
 
 -- the octets that the caller lends; no listing is longer
 abbrev pub room : ℕ
@@ -23,3 +23,11 @@ pub record HeadPut (book : List ℕ) (at : ℕ) : Type 0 where
   pub head : book_head ≤ length book
   pub short : length book ≤ longest_book
   pub place : at ≤ 6
+
+-- a command that is not cut lies whole in the book
+pub record Whole (book : List ℕ) (at : ℕ) (command : List ℕ) : Type 0 where
+  pub uncut : is_cut book at ≡ false
+  pub is : command ≡ command_in book at
+  pub long : length command ≡ length_of book at
+  pub header : 20 ≤ length command
+  pub inside : at + length command ≤ length book

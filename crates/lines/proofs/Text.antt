@@ -1,15 +1,17 @@
 -- Laws of text: pieces that are put one behind the other, and a line put whole or not at all.
 use mathlib.Core.Path.{◌≡◌, refl, sym, ap, ◌∙◌}
 use mathlib.Core.Bool.{Bool, true, false}
-use mathlib.Core.List.{List, [], ◌∷◌, ◌++◌}
+use mathlib.Core.List.{List, [], ◌∷◌, ◌++◌, append_assoc}
 use Prim.Native.Nat.{ℕ, suc, ◌+◌, ◌-◌, ◌≤◌, ◌<◌}
 use native.Mathlib.Nat.{add-zero}
-use native.Mathlib.Numerals.{add-one}
 use native.Mathlib.Omega.{arith}
 use borrow.Author.Tests.{le-leb, lt-leb, leb-true, leb-false}
 use lib.Dec.{leb}
-use lib.ListN.{length, get_or, set, take, length-append}
-use lib.Seq.{sets, length-sets, take-suc}
+use borrow.Rule.Slice.PartMut.{put_mid}
+use lib.ListN.{length, set, length-append}
+use lib.Seq.{sets, length-sets}
+use Rattle.std.proofs.Common.{rules, drop-drop}
+use Rattle.std.proofs.lemmas.List.Edits.{sets-eq}
 use Rattle.rules.proofs.Walk.{by_cases}
 use Rattle.lines.specs.Promise.{LinePut, Put, PutWithin, line_room, has_room}
 
@@ -37,16 +39,6 @@ put-length {before} {at} {text} p = ap length p.octets ∙ length-sets before at
 pub put_nothing : (out : List ℕ) (at : ℕ) → Put out at [] (at + 0) out
 put_nothing out at = record { next = refl; octets = refl }
 
-pub put_octet : (out : List ℕ) (at octet : ℕ) → Put out at (octet ∷ []) (at + 1) (set out at octet)
-put_octet out at octet = record { next = refl; octets = refl }
-
--- the front of a word, one octet more
-pub put_more : {before out : List ℕ} {at : ℕ} (word : List ℕ) (i : ℕ) → i < length word → Put before at (take i word) (at + i) out
-    → Put before at (take (i + 1) word) (at + (i + 1)) (set out (at + i) (get_or word i 0))
-put_more {before} {out} {at} word i h p =
-    let e : at + (i + 1) ≡ at + i + 1 = omega arith in
-    rw (e, add-one i, take-suc word i 0) (joined p (put_octet out (at + i) (get_or word i 0)))
-
 -- ---- a line
 
 -- the test of the room, which no addition overflows
@@ -64,16 +56,22 @@ pub room_met : (at n : ℕ) {t : Bool} → t ≡ leb (at + line_room) n → t �
 room_met at n e f = leb-true _ _ (sym e ∙ f)
 
 module _ {before : List ℕ} {at : ℕ} {line : List ℕ} where
-  pub line_put : at + line_room ≤ length before → {r : ℕ} {after : List ℕ} {most : ℕ} → most ≤ line_room
-      → PutWithin most before at line r after → LinePut before at line r after
+  pub no_line : length before - at < line_room → LinePut before at line at before
   unfolding has_room
-  line_put h k p =
-      let e = le-leb (at + line_room) (length before) h in
-      record { next = rw e p.put.next; octets = rw e p.put.octets; within = omega (arith, p.within) }
+  no_line h =
+      let e = lt-leb (at + line_room) (length before) (omega arith) in
+      record { next = rw e; octets = rw e; within = omega arith }
 
-  pub no_line : leb (at + line_room) (length before) ≡ false → LinePut before at line at before
+  pub line_put : line_room ≤ length before - at → length line ≤ line_room → {r n : ℕ} {part : List ℕ}
+      → r ≡ at + length line → n ≡ length line → part ≡ line → LinePut before at line r (put_mid at n before part)
   unfolding has_room
-  no_line e = record { next = rw e; octets = rw e; within = omega arith }
+  line_put h k {r} {n} {part} e f g =
+      let room = le-leb (at + line_room) (length before) (omega arith) in
+      record {
+        next = rw room e;
+        octets = rw (room, f, g, sets-eq line before at (omega arith), drop-drop (length line) at before) (search (rules, append_assoc));
+        within = omega arith;
+      }
 
   -- what a caller that sees to the room takes from a promise
   pub line_fits : at + line_room ≤ length before → {r : ℕ} {after : List ℕ} → LinePut before at line r after

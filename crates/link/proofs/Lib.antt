@@ -1,5 +1,4 @@
--- The laws of a stream's listing. What a read gives, one line, the lines of a piece:
-mod Inputs
+-- The laws of a stream's listing. One line, the lines of a piece:
 mod Puts
 pub mod Steps
 mod Pieces

@@ -1,5 +1,5 @@
 -- Laws of one line: the line for an answer of the reader, put into the text, and the tally after it.
-use Rattle.std.proofs.Common.{◌≡◌, ℕ, ◌+◌, ◌%◌, ◌^◌, List, [], refl, ap, ◌∙◌, arith, eq-eqb, ne_eqb}
+use Rattle.std.proofs.Common.{◌≡◌, ℕ, ◌+◌, List, [], refl, ap, ◌∙◌, arith, eq-eqb, ne_eqb}
 use Rattle.rules.specs.Lines.{cut_line, end_line}
 use Rattle.lines.specs.Promise.{PutWithin, line_room}
 use Rattle.fragments.specs.declared.Progress.{Progress}
@@ -7,13 +7,9 @@ use Rattle.fragments.specs.declared.Step.{Step}
 use Rattle.fragments.specs.Link.{step, buffer_after}
 use Rattle.fragments.proofs.Calls.{taken_within}
 use Rattle.link.specs.declared.Tally.{Tally}
-use Rattle.link.specs.declared.Line.{Line}
+use Rattle.link.specs.declared.Link.{Link}
 use Rattle.link.specs.Listing.{counted, line_by, tally_by, tally_after, last_line}
 use Rattle.link.specs.Promise.{LineListed}
-
-pub counts : (n : ℕ) → n % 2 ^ 64 ≡ counted n
-unfolding counted
-counts n = refl
 
 -- no line
 pub no_line : (before : List ℕ) (at : ℕ) → PutWithin line_room before at [] at before
@@ -25,17 +21,17 @@ pub line_by_lem : (t : Tally) (progress p : Progress) → progress ≡ p → (be
 line_by_lem t progress p e before at r after l = rw e l
 
 -- what handing octets to the reader once gives
-pub line_listed : (t : Tally) (octets buffer before : List ℕ) (at : ℕ) (s : Step) → s ≡ step t.state octets buffer
-    → (r : Line) → r.tally ≡ tally_by t (t.state.held + s.taken) s.progress s.state → r.taken ≡ s.taken
-    → (buffer' : List ℕ) → buffer' ≡ buffer_after t.state octets buffer
-    → (after : List ℕ) → PutWithin line_room before at (line_by t s.progress) r.end after
-    → LineListed t octets buffer before at r buffer' after
+pub line_listed : (l : Link) (octets : List ℕ) (s : Step) → s ≡ step l.tally.state octets l.buffer → (l' : Link)
+    → l'.tally ≡ tally_by l.tally (l.tally.state.held + s.taken) s.progress s.state
+    → l'.buffer ≡ buffer_after l.tally.state octets l.buffer
+    → PutWithin line_room l.text l.end (line_by l.tally s.progress) l'.end l'.text → LineListed l octets s.taken l'
 unfolding tally_after
-line_listed t octets buffer before at s e r tally taken buffer' held after put =
+line_listed l octets s e l' tally held put =
+    let t = l.tally in
     record {
       tally = tally ∙ ap (λ (a : Step). tally_by t (t.state.held + a.taken) a.progress a.state) e;
-      taken = taken ∙ ap (λ (a : Step). a.taken) e;
-      within = omega (arith, taken, ap (λ (a : Step). a.taken) e, taken_within t.state octets buffer);
+      taken = ap (λ (a : Step). a.taken) e;
+      within = omega (arith, ap (λ (a : Step). a.taken) e, taken_within t.state octets l.buffer);
       put = rw e at put;
       held = held;
     }
