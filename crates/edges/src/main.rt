@@ -10,80 +10,49 @@ mod header;
 mod kinds;
 mod limits;
 mod notation;
-mod print;
-mod puts;
 mod record;
 mod rows;
-mod text;
+mod start;
 mod walks;
 
-use std::io::Stdout;
+use std::io;
 
-fn header_cases(stdout: Stdout) {
-    header::lengths(stdout);
-    header::names(stdout);
-    header::flags(stdout);
+// A start, and a line for each case that begins with it.
+fn judge_cases(rt: &(impl Print + AllocGlobal), cases: &[(&str, &str)]) -> io::Result<()> {
+    for &(start, lines) in cases {
+        case::judge_lines(rt, start, lines)?;
+    }
+    Ok(())
 }
 
-fn walk_cases(stdout: Stdout) {
-    walks::stray_octets(stdout);
-    walks::avp_lengths(stdout);
-    walks::flags(stdout);
-    walks::transfer_request_types(stdout);
-    walks::names_and_values(stdout);
-    walks::depths(stdout);
-    walks::unread(stdout);
+fn print_records(rt: &(impl Print + AllocGlobal)) -> io::Result<()> {
+    record::print_s(rt)?;
+    record::print_flags(rt)?;
+    record::print_count_300(rt)?;
+    record::print_policies(rt)?;
+    record::print_refusal(rt)
 }
 
-fn row_cases(stdout: Stdout) {
-    rows::after_walk(stdout);
-    rows::session_ids(stdout);
-    rows::command_list(stdout);
-    rows::vendor_specific_application_ids(stdout);
-    rows::groups(stdout);
-    rows::list_order(stdout);
+fn judge_all(rt: &(impl Print + AllocGlobal)) -> io::Result<()> {
+    judge_cases(rt, limits::VALUES)?;
+    limits::judge_counts(rt)?;
+    limits::judge_lengths(rt)?;
+    for &(label, octets) in header::CASES {
+        case::judge_octets(rt, label, octets)?;
+    }
+    judge_cases(rt, walks::CASES)?;
+    judge_cases(rt, rows::CASES)?;
+    judge_cases(rt, exchanges::CASES)?;
+    judge_cases(rt, error_answers::CASES)?;
+    print_records(rt)?;
+    // Names without vendor, with a vendor that has no entry, and of 3GPP.
+    for vendor in [0, 10414, 10415] {
+        kinds::print_kinds(rt, vendor)?;
+    }
+    Ok(())
 }
 
-fn exchange_cases(stdout: Stdout) {
-    exchanges::first_requests(stdout);
-    exchanges::totals(stdout);
-    exchanges::later_requests(stdout);
-    exchanges::results(stdout);
-    exchanges::policy_counts(stdout);
-    exchanges::policies(stdout);
-    exchanges::windows(stdout);
-}
-
-fn error_answer_cases(stdout: Stdout) {
-    error_answers::rows(stdout);
-    error_answers::as_every_command(stdout);
-}
-
-fn records(stdout: Stdout) {
-    record::of_s(stdout);
-    record::of_flags(stdout);
-    record::of_count_300(stdout);
-    record::of_policies(stdout);
-    record::of_refusal(stdout);
-}
-
-// Names without vendor, with a vendor that has no entry, and of 3GPP.
-fn dictionary_kinds(stdout: Stdout) {
-    kinds::kinds_of(stdout, 0);
-    kinds::kinds_of(stdout, 10414);
-    kinds::kinds_of(stdout, 10415);
-}
-
+// What is printed is compared with the file `stdout`, so that a line that is lacking is seen there.
 fn main(rt: HostRuntime) {
-    let stdout = rt.stdout();
-    limits::values(stdout);
-    limits::counts(stdout);
-    limits::lengths(stdout);
-    header_cases(stdout);
-    walk_cases(stdout);
-    row_cases(stdout);
-    exchange_cases(stdout);
-    error_answer_cases(stdout);
-    records(stdout);
-    dictionary_kinds(stdout);
+    let _ = judge_all(&rt);
 }

@@ -1,211 +1,150 @@
-// Commands from a notation of their AVPs.
-//
-// An AVP is its flags (V, M, P), its code in decimal and its data: `=` and a number of four octets in decimal, `:` and
-// octets in hexadecimal, or its members in parentheses. V goes with the Vendor-Id of 3GPP; length and padding follow
-// from the data.
-// `#` and octets in hexadecimal are those octets and no AVP. A space or a parenthesis ends what stands before it.
-ghost use Rattle.std.specs.Prelude.{◌<◌};
+// Commands from a notation of AVPs: flags (V with 3GPP's Vendor-Id, M, P), decimal code, and data: `=` and a decimal
+// number of four octets, `:` and octets in hexadecimal, or members in parentheses; length and padding follow. `#` and
+// hexadecimal are octets and no AVP. A space or a parenthesis ends what stands before it.
+use std::alloc::{AllocError, Global};
+use std::io;
+use std::io::ErrorKind;
 
-use crate::puts;
+// The characters that end what stands before them.
+const ENDS: [char; 3] = [' ', '(', ')'];
 
-// What is being written: the flags and code of an AVP, its data as a number or as octets, or octets that are no AVP.
-#[derive(Clone, Copy)]
-enum Part {
-    Name,
-    Number,
-    Data,
-    Octets,
+// The octets of a command, or of what is none.
+#[derive(Drop)]
+pub(crate) struct Command {
+    octets: Vec<u8>,
 }
 
-// How far the writing is: `end` is the place behind the last octet, `avp` the first octet of the AVP whose data is
-// being written, `number` what the digits so far stand for, and `depth` the number of open groups.
-#[derive(Clone, Copy)]
-struct Draft {
-    end: usize,
-    avp: usize,
-    flags: u8,
-    number: u64,
-    part: Part,
-    depth: usize,
+fn malformed() -> io::Error {
+    io::Error::from(ErrorKind::InvalidData)
 }
 
-fn next_avp(end: usize, depth: usize) -> Draft {
-    Draft {
-        end,
-        avp: end,
-        flags: 0,
-        number: 0,
-        part: Part::Name,
-        depth,
+// Writes the length of the octets into the three at a place.
+fn write_length(octets: &mut [u8], place: usize) {
+    let [.., high, middle, low] = octets.len().to_be_bytes();
+    if let Some(behind) = octets.get_mut(place..)
+        && let Some(field) = behind.first_chunk_mut()
+    {
+        *field = [high, middle, low];
     }
 }
 
-fn flag(d: Draft, bit: u8) -> Draft {
-    Draft {
-        end: d.end,
-        avp: d.avp,
-        flags: d.flags | bit,
-        number: d.number,
-        part: Part::Name,
-        depth: d.depth,
-    }
-}
-
-fn with_number(d: Draft, end: usize, number: u64) -> Draft {
-    let part = d.part;
-    Draft {
-        end,
-        avp: d.avp,
-        flags: d.flags,
-        number,
-        part,
-        depth: d.depth,
-    }
-}
-
-// Octets start with the number 1, which stands for no digit yet.
-fn begin_octets(d: Draft) -> Draft {
-    Draft {
-        end: d.end,
-        avp: d.avp,
-        flags: 0,
-        number: 1,
-        part: Part::Octets,
-        depth: d.depth,
-    }
-}
-
-// The header of an AVP, with its length still to come.
-fn put_header(out: &mut [u8; 16400], d: Draft) -> usize {
-    let flags = d.flags;
-    let at_flags = puts::put4(out, d.end, d.number);
-    let at_length = puts::put(out, at_flags, flags);
-    let behind = puts::put3(out, at_length, 0);
-    if flags < 128 {
-        return behind;
-    }
-    puts::put4(out, behind, 10415)
-}
-
-fn begin_data(out: &mut [u8; 16400], d: Draft, part: Part, number: u64) -> Draft {
-    let end = put_header(out, d);
-    Draft {
-        end,
-        avp: d.end,
-        flags: 0,
-        number,
-        part,
-        depth: d.depth,
-    }
-}
-
-fn end_data(out: &mut [u8; 16400], d: Draft, end: usize) -> Draft {
-    let avp = d.avp;
-    if avp < 16400 {
-        puts::put_length(out, avp + 5, avp, end);
-    }
-    let behind = puts::put_padding(out, end);
-    next_avp(behind, d.depth)
-}
-
-fn end_part(out: &mut [u8; 16400], d: Draft) -> Draft {
-    let part = d.part;
-    match part {
-        Part::Name => d,
-        Part::Octets => next_avp(d.end, d.depth),
-        Part::Data => end_data(out, d, d.end),
-        Part::Number => {
-            let end = puts::put4(out, d.end, d.number);
-            end_data(out, d, end)
+impl Command {
+    pub(crate) fn new(alloc: Global) -> Command {
+        Command {
+            octets: Vec::new(alloc),
         }
     }
-}
 
-fn open_group(out: &mut [u8; 16400], groups: &mut [usize; 8], d: Draft) -> Draft {
-    let depth = d.depth;
-    if 8 <= depth {
-        return d;
+    pub(crate) fn octets(&self) -> &[u8] {
+        self.octets.as_slice()
     }
-    groups[depth] = d.end;
-    let end = put_header(out, d);
-    next_avp(end, depth + 1)
-}
 
-fn close_group(out: &mut [u8; 16400], groups: &mut [usize; 8], d: Draft) -> Draft {
-    let e = end_part(out, d);
-    let depth = e.depth;
-    if depth == 0 {
-        return e;
+    // The length of the whole, in the header.
+    pub(crate) fn set_length(&mut self) {
+        write_length(&mut self.octets, 1);
     }
-    if 8 < depth {
-        return e;
-    }
-    let group = groups[depth - 1];
-    if group < 16400 {
-        puts::put_length(out, group + 5, group, e.end);
-    }
-    next_avp(e.end, depth - 1)
-}
 
-fn digit_of(c: u8) -> u64
-    ensures { result < 25 }
-{
-    if c < b'A' {
-        return (c % 16) as u64;
+    pub(crate) fn set_flags(&mut self, flags: u8) {
+        if let Some(field) = self.octets.get_mut(4) {
+            *field = flags;
+        }
     }
-    (c % 16) as u64 + 9
-}
 
-fn decimal_digit(d: Draft, digit: u8) -> Draft {
-    let number = d.number % 4294967296 * 10 + digit_of(digit);
-    with_number(d, d.end, number)
-}
-
-// Every second digit ends an octet.
-fn hexadecimal_digit(out: &mut [u8; 16400], d: Draft, digit: u8) -> Draft {
-    let number = d.number % 256 * 16 + digit_of(digit);
-    if number < 256 {
-        return with_number(d, d.end, number);
+    // Zeros up to a length.
+    pub(crate) fn fill(&mut self, length: usize) -> Result<(), AllocError> {
+        self.octets.resize(length, 0)
     }
-    let end = puts::put(out, d.end, (number % 256) as u8);
-    with_number(d, end, 1)
-}
 
-fn put_digit(out: &mut [u8; 16400], d: Draft, digit: u8) -> Draft {
-    let part = d.part;
-    match part {
-        Part::Name => decimal_digit(d, digit),
-        Part::Number => decimal_digit(d, digit),
-        Part::Data => hexadecimal_digit(out, d, digit),
-        Part::Octets => hexadecimal_digit(out, d, digit),
+    // What stands behind the first `length` octets goes.
+    pub(crate) fn truncate(&mut self, length: usize) {
+        self.octets.truncate(length);
     }
-}
 
-fn step(out: &mut [u8; 16400], groups: &mut [usize; 8], d: Draft, c: u8) -> Draft {
-    match c {
-        b'V' => flag(d, 128),
-        b'M' => flag(d, 64),
-        b'P' => flag(d, 32),
-        b'#' => begin_octets(d),
-        b'=' => begin_data(out, d, Part::Number, 0),
-        b':' => begin_data(out, d, Part::Data, 1),
-        b'(' => open_group(out, groups, d),
-        b')' => close_group(out, groups, d),
-        b' ' => end_part(out, d),
-        _ => put_digit(out, d, c),
+    // Puts the header of an AVP, with its length still to come, and returns where it begins.
+    pub(crate) fn begin_avp(&mut self, name: &str) -> io::Result<usize> {
+        let start = self.octets.len();
+        let code = name.trim_start_matches(['V', 'M', 'P']);
+        let code: u32 = code.parse().map_err(|_| malformed())?;
+        let mut flags = 0;
+        for letter in name.chars() {
+            flags |= match letter {
+                'V' => 128,
+                'M' => 64,
+                'P' => 32,
+                _ => 0,
+            };
+        }
+        self.octets.extend_from_slice(&code.to_be_bytes())?;
+        self.octets.extend_from_slice(&[flags, 0, 0, 0])?;
+        if name.contains('V') {
+            self.octets.extend_from_slice(&10415u32.to_be_bytes())?;
+        }
+        Ok(start)
     }
-}
 
-// Puts what `text` stands for, and returns the place behind it.
-pub(crate) fn put(out: &mut [u8; 16400], start: usize, text: &[u8]) -> usize {
-    let mut groups = [0usize; 8];
-    let mut d = next_avp(start, 0);
-    let mut i = 0;
-    while i < text.len() {
-        let next = step(out, &mut groups, d, text[i]);
-        d = next;
-        i += 1;
+    // The length of the AVP that begins at `start` and ends here.
+    pub(crate) fn set_avp_length(&mut self, start: usize) {
+        if let Some(avp) = self.octets.as_mut_slice().get_mut(start..) {
+            write_length(avp, 5);
+        }
     }
-    let last = end_part(out, d);
-    last.end
+
+    // Padding is not zero, since its content is ignored (01, AVP).
+    fn end_avp(&mut self, start: usize) -> Result<(), AllocError> {
+        self.set_avp_length(start);
+        let padding = (4 - self.octets.len() % 4) % 4;
+        self.octets.extend_from_slice(&[255; 3][..padding])
+    }
+
+    fn put_octets(&mut self, digits: &str) -> io::Result<()> {
+        for pair in digits.as_bytes().chunks(2) {
+            let pair = str::from_utf8(pair).map_err(|_| malformed())?;
+            let octet = u8::from_str_radix(pair, 16).map_err(|_| malformed())?;
+            self.octets.push(octet)?;
+        }
+        Ok(())
+    }
+
+    // Puts octets, or an AVP that is no group.
+    fn put_part(&mut self, part: &str) -> io::Result<()> {
+        if part.is_empty() {
+            return Ok(());
+        }
+        if let Some(digits) = part.strip_prefix('#') {
+            return self.put_octets(digits);
+        }
+        if let Some((name, digits)) = part.split_once(':') {
+            let start = self.begin_avp(name)?;
+            self.put_octets(digits)?;
+            self.end_avp(start)?;
+            return Ok(());
+        }
+        let (name, number) = part.split_once('=').ok_or_else(malformed)?;
+        let number: u32 = number.parse().map_err(|_| malformed())?;
+        let start = self.begin_avp(name)?;
+        self.octets.extend_from_slice(&number.to_be_bytes())?;
+        self.end_avp(start)?;
+        Ok(())
+    }
+
+    // Puts what `text` stands for.
+    pub(crate) fn put(&mut self, text: &str) -> io::Result<()> {
+        let mut groups = Vec::new(*self.octets.allocator());
+        for part in text.split_inclusive(ENDS) {
+            let body = part.trim_end_matches(ENDS);
+            if part.ends_with('(') {
+                groups.push(self.begin_avp(body)?)?;
+                continue;
+            }
+            self.put_part(body)?;
+            if part.ends_with(')') {
+                self.end_avp(groups.pop().ok_or_else(malformed)?)?;
+            }
+        }
+        if groups.is_empty() {
+            Ok(())
+        } else {
+            Err(malformed())
+        }
+    }
 }

@@ -1,2 +1,0 @@
--- Places in a text.
-pub mod Place
