@@ -28,7 +28,6 @@ fn put_lines(book: &[u8], out: &mut [u8; limits::LISTING_ROOM], start: usize) ->
     requires { HeadPut book.now start }
     ensures { PutWithin (room - 6) out.old start (lines_of book.now) result out.new }
 {
-    let table = dictionary::plain_codes();
     let mut log = [0u32; limits::LOG_NUMBERS];
     let mut at = start;
     let mut offset = limits::BOOK_HEAD;
@@ -38,7 +37,7 @@ fn put_lines(book: &[u8], out: &mut [u8; limits::LISTING_ROOM], start: usize) ->
         let Some(command) = command_at(book, offset) else {
             return lines::put_cut_line(out, at, commands + 1, offset as u64);
         };
-        let v = reader::verdict_by(command, table, &mut log);
+        let v = reader::verdict(command, &mut log);
         commands += 1;
         at = lines::put_command_line(out, at, commands, offset as u64, v);
         accepted += u64::from(v.number == 0);

@@ -33,6 +33,7 @@ fn no_verdict() -> Verdict
     }
 }
 
+// By the cases of 02 [7] and their numbers in C.
 fn numbered(step: Step) -> LinkStep
     ensures { result ≡ link_step step }
 {

@@ -79,7 +79,8 @@ fn is_tree(numbers: &Numbers) -> bool
     true
 }
 
-// A read group's length is that of its members with padding.
+// A read group's length is that of its members with padding. The bound is of one call: a type for it would be made and
+// taken apart at each.
 fn has_size(numbers: &Numbers, position: usize) -> bool
     requires { position < most_avps }
     ensures { HasSize numbers.now position result }

@@ -9,6 +9,7 @@ ghost use Rattle.encoding.specs.Promise.{IsFlag};
 use numbers::Numbers;
 use rules::{Avp, flags, limits};
 
+// The value of a flag that is set.
 fn flag(on: bool, value: u8) -> u8
     ensures { IsFlag on value result }
 {

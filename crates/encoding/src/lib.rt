@@ -16,7 +16,7 @@ mod avps;
 mod flags;
 mod header;
 
-// A refusal of the writer's own: place, vendor and code are 0.
+// A refusal of the writer's own: place, vendor and code are 0. Written out: no longer than a call with three zeros.
 fn refusal(number: u32) -> Verdict
     ensures { result ≡ verdict number 0 0 0 }
 {

@@ -54,7 +54,8 @@ pub fn policy_in(firsts: &[u16; kinds::ENTRIES], count: usize, end: u32) -> Outc
     members.require(RatingGroup::ENTRY)
 }
 
-// The rules of an answer; `number` is how many policies there are, `policies` what is said of each.
+// The rules of an answer; `number` is how many policies there are, `policies` what is said of each: two fields of
+// `Groups`, as the definition `answer_outcome` takes them.
 pub(crate) fn answer_outcome(list: List, number: usize, policies: Outcome) -> Outcome
     ensures { let m = list.entry.members in result ≡ answer_outcome (find_in m.firsts.now m.count) (avps_in list.entry.log.now m.count) m.end number policies }
 {

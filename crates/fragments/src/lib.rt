@@ -75,7 +75,8 @@ fn fill(buffer: &mut [u8], held: usize, fragment: &[u8], goal: usize) -> usize
     count
 }
 
-// A call that is refused takes nothing and keeps the state.
+// A call that is refused takes nothing and keeps the state. Verdicts are written out here: no longer than a call with
+// zeros.
 fn refused_call(number: u32, state: State) -> Step
     ensures { result ≡ refused_call number state }
 {

@@ -15,6 +15,7 @@ const ONCE: u8 = admission_table::ONCE / admission_table::MARK;
 
 const AT_MOST_ONCE: u8 = admission_table::AT_MOST_ONCE / admission_table::MARK;
 
+// By the numbers of the table, of which each has a mark: no TryFrom, since none is refused.
 fn mark_of(number: u8) -> Mark
     ensures { result ≡ mark_at number }
 {

@@ -7,7 +7,7 @@ use avp::member_fault;
 use rules::{Avp, Mark, Outcome};
 
 // A member that has a row with this mark: `met` says that the row was met before, `first` that the member is the list's
-// first.
+// first. One match of 01's cases: closures would want a case each all the same.
 pub(crate) fn by_mark(mark: Mark, met: bool, first: bool, a: Avp) -> Outcome
     ensures { result ≡ by_mark mark met first a }
 {

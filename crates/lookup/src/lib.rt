@@ -59,7 +59,7 @@ pub fn search_numbers(numbers: &Numbers, vendor: u32, code: u32, ordinal: usize)
     sought
 }
 
-// The same in a record.
+// The same in a record. Both stand, since both are promised.
 pub fn search(record: Record, vendor: u32, code: u32, ordinal: usize) -> Sought
     ensures { IsSought «record» vendor code ordinal result }
 {

@@ -7,8 +7,7 @@ ghost use Rattle.std.specs.Prelude.{◌≡◌, ◌≤◌};
 ghost use Rattle.rules.specs.Octets.{number_at, IsNumber, flag, padded, IsPadded};
 
 // The number in the octets at a place. It is private, with a public name for each width: no public function asks
-// anything of its caller, and 64 bits hold eight octets at most. Cut by `get` and `first_chunk` it was tried, and
-// slower by 13 instructions a command.
+// anything of its caller, and 64 bits hold eight octets at most.
 fn number_at<const WIDTH: usize>(s: &[u8], at: usize) -> u64
     requires { WIDTH ≤ 8 }
     ensures { IsNumber WIDTH (number_at WIDTH s.now at) result }

@@ -23,7 +23,7 @@ pub fn put_octets(out: &mut [u8], at: usize, s: &[u8])
     }
 }
 
-// The last three octets of a number.
+// The last three octets of a number. This and the next differ in type and width; what both do, `put_octets` does.
 #[tactic(auto, using(crate::proofs::Output::be_three))]
 pub fn put_number3(out: &mut [u8], at: usize, n: usize)
     ensures { out.new ≡ put_at out.old at (octets 3 n) }

@@ -6,7 +6,7 @@ ghost use Rattle.rules.specs.Header.{length_outcome, application_outcome, flags_
 use octets::has_flag;
 use rules::{Outcome, Verdict, flags, limits};
 
-// A refusal at a place of the header, where no AVP is at fault.
+// A refusal at a place of the header, where no AVP is at fault. Written out: no longer than a call with two zeros.
 fn refusal(number: u32, place: u32) -> Outcome
     ensures { result ≡ refused number place 0 0 }
 {

@@ -12,7 +12,7 @@ use octets::has_flag;
 use rules::{CommandRules, ExchangeRules, Grammar, Outcome, flags};
 use walk_log::Log;
 
-// What a command is judged by, by its command flags.
+// What a command is judged by, by its command flags: 01's cases, which no derive or From says.
 #[tactic(auto, unfolding(rules::specs::Command::rules_by))]
 fn command_rules(flags: u8) -> CommandRules
     ensures { result ≡ rules_by flags }
@@ -65,7 +65,8 @@ pub(crate) fn judge_by(s: &[u8], table: &[u8; plain::PLAIN_CODES], log: &mut Log
     }
 }
 
-// The same by the right table.
+// The same by the right table. Apart from `judged`, since the edit `judged_passes_all` is wrong in that one alone, not
+// in `read`.
 pub(crate) fn judge(s: &[u8], log: &mut Log) -> Judgement
     ensures { IsJudged s.now log.old result log.new }
 {

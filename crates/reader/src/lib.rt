@@ -22,7 +22,7 @@ pub struct Judgement {
     pub count: usize,
 }
 
-// Accepted: number, place, vendor and code 0.
+// Accepted: number, place, vendor and code 0. Public, so kept: what it promises is that verdict.
 pub fn accepted() -> Verdict
     ensures { result ≡ verdict 0 0 0 0 }
 {
@@ -44,6 +44,7 @@ pub fn outcome(s: &[u8], log: &mut Log) -> Outcome
     judged(s, log).outcome
 }
 
+// By 01's cases: no From says it, since acceptance is a verdict too.
 fn verdict_of(outcome: Outcome) -> Verdict
     ensures { result ≡ verdict_of outcome }
 {

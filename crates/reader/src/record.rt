@@ -47,7 +47,8 @@ pub(crate) fn empty_record() -> Record
     }
 }
 
-// The record of a command whose AVPs stand in a log.
+// The record of a command whose AVPs stand in a log. The bound is of one call: a type for it would be made and taken
+// apart there.
 pub(crate) fn record_of(s: &[u8], log: &Log, count: usize) -> Record
     requires { (header_size ≤ length s.now) × (count ≤ most_avps) }
     ensures { result ≡ record_of s.now (avps_in log.now count) }

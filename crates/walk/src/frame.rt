@@ -1,5 +1,5 @@
 // 01, AVP, and Walk, check 2: the AVP at a place, if the octets left in its list hold it. Its header is read once, from
-// the rest of the list, so that one test of its length spares the compiled code those.
+// the rest of the list.
 ghost use Rattle.std.specs.Prelude.{◌≡◌, ◌^◌, ◌≤◌, ◌<◌};
 ghost use Rattle.rules.specs.Avp.{avp_at};
 ghost use Rattle.rules.specs.Walk.{framing};
@@ -40,8 +40,7 @@ fn avp_by(w: Standing<'_>, header: usize, vendor: u32, code: u32, flags: u8, len
 }
 
 // Check 2 of the AVP where a walk stands: the code is given where 8 octets are left, the vendor where V is set and 12
-// are. The two sizes of a header are two paths up to their answers: joined in a function below, they cost the compiled
-// walk what the one reading gains.
+// are. The two sizes of a header are two paths up to their answers, which tell of vendor and code what was read so far.
 pub(crate) fn framed(w: Standing<'_>) -> Result<Avp, Verdict>
     ensures { result ≡ frame_of (framing w.entry.s.now w.entry.at w.entry.end) (avp_at w.entry.s.now w.entry.at w.entry.depth) }
 {

@@ -22,7 +22,7 @@ pub struct Stopped {
     pub verdict: Verdict,
 }
 
-// How many AVPs stand in the log after a walk.
+// How many AVPs stand in the log after a walk: a method of Result gives the one or the other, not the count of both.
 fn met_in(walk: Result<usize, Stopped>) -> usize
     ensures { result ≡ met_in walk }
 {
@@ -43,7 +43,7 @@ fn walk_avp<'a>(
     ensures { AvpWalked (dictionary_by table.now) (number_by table.now) w.entry.s.now (standing_of w.entry) log.old result log.new }
 {
     // A fault that carries the count from where it is found, so that `?` does here too, was tried, and slower by 11
-    // instructions an AVP; so was `map_err(|verdict| Stopped { .. })?`, whose closure's ensures leaves the goal open.
+    // instructions an AVP. With `map_err(|verdict| Stopped { .. })?` the proof did not close.
     let passed = match check::check(w, table) {
         Ok(passed) => passed,
         Err(verdict) => return Err(Stopped {

@@ -22,7 +22,8 @@ pub(crate) struct Standing<'a> {
 }
 
 impl<'a> Standing<'a> {
-    // Behind an AVP of the same list. `..self` is not there for a struct with ghost fields.
+    // Behind an AVP of the same list. `..self` is not there for a struct with ghost fields; the bound on `count` is
+    // what the field `few` asks for.
     pub(crate) fn behind(self, at: usize, count: usize) -> Standing<'a>
         requires list { at ≤ self.end }
         requires room { count ≤ most_avps }
@@ -38,7 +39,7 @@ impl<'a> Standing<'a> {
         }
     }
 
-    // A refusal at this place.
+    // A refusal at this place: the verdict itself, where `avp::refusal` gives an Outcome.
     pub(crate) fn fault(self, number: u32, vendor: u32, code: u32) -> Verdict
         ensures { result ≡ verdict number self.entry.at vendor code }
     {

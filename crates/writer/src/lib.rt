@@ -38,7 +38,7 @@ pub fn write_numbers(numbers: &Numbers, s: &[u8], out: &mut [u8]) -> Written
     }
 }
 
-// Writes a draft, given as a record over octets.
+// Writes a draft, given as a record over octets. Both stand, since both are promised.
 pub fn write(draft: Record, s: &[u8], out: &mut [u8]) -> Written
     ensures { IsWritten (draft_of draft s.now) out.old result out.new }
 {

@@ -24,7 +24,7 @@ returns-in_default c =
 pub loop-offset-preserved : goal.loop-offset-preserved
 loop-offset-preserved c =
     let o = c.loop-offset in
-    let result = c.verdict_by-v.result in
+    let result = c.verdict-v.result in
     let line : Put o.out o.at (command_line (o.commands + 1) o.offset result) c.put_command_line-at.result
     c.put_command_line-at.new.out = (line_fits (omega arith) c.put_command_line-at.ensures).put in
     -- each field of the verdict has 32 bits
@@ -32,7 +32,7 @@ loop-offset-preserved c =
     command_line_short (o.commands + 1) o.offset result (omega arith) (omega arith) (omega arith)
     (omega arith) (omega arith) (omega arith) in
     next_turn o.invariant c.loop-offset-test.true c.in-Some.ensures
-    (c.verdict_by-v.ensures.right c.plain_codes-table.ensures) short line
+    c.verdict-v.ensures.answer short line
     (c.from-accepted.ensures ∙ acceptance_is result)
 
 pub returns : goal.returns
