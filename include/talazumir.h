@@ -61,9 +61,9 @@ extern "C" {
 #define TALAZUMIR_AVP_LENGTH 6
 
 /* The stack that a call takes at most, in octets, its return address among them: the frames along the deepest chain of
- * calls, rounded up. memcpy, memmove and memset of the C library, where the archive's code calls them, count 4,096,
- * since the dynamic linker may bind them at their first call. No proof says it: tests/boundary/stack adds up the frames
- * of the archive as built. */
+ * calls, rounded up. memcpy and memset of the C library, where the archive's code calls them, count 4,096, since the
+ * dynamic linker may bind them at their first call. No proof says it: tests/boundary/stack adds up the frames of the
+ * archive as built. */
 #define TALAZUMIR_VERDICT_STACK 8192
 #define TALAZUMIR_READ_STACK 16384
 #define TALAZUMIR_DATA_STACK 256

@@ -2,14 +2,15 @@
 use mathlib.Core.Path.{◌≡◌, refl, sym, ap, ◌∙◌}
 use mathlib.Core.Bool.{true, false}
 use mathlib.Core.List.{List, append_assoc}
-use Prim.Native.Nat.{ℕ, ◌+◌, ◌-◌, ◌≤◌}
-use native.Mathlib.Nat.{div-one}
+use Prim.Native.Nat.{ℕ, suc, ◌+◌, ◌-◌, ◌≤◌, ◌<◌}
+use native.Mathlib.Nat.{add-zero, div-one}
+use native.Mathlib.Numerals.{add-one}
 use native.Mathlib.Omega.{arith}
 use borrow.Author.Tests.{le-leb, true-leb}
 use borrow.Rule.Slice.PartMut.{put_mid}
 use lib.Dec.{leb}
-use lib.ListN.{length, take, drop, replicate, length-drop, length-replicate}
-use lib.Seq.{sets, sets-eq, drop-drop, length-take-le}
+use lib.ListN.{length, get_or, set, take, drop, replicate, drop_of_length-le, length-drop, length-replicate}
+use lib.Seq.{sets, sets-eq, drop-cons, drop-drop, length-take-le}
 use Rattle.std.specs.Int.{w32, w64, to_be_bytes}
 use Rattle.rules.specs.Octets.{octets}
 use Rattle.output.specs.Output.{put_at}
@@ -54,6 +55,24 @@ module _ (out : List ℕ) (at : ℕ) (xs : List ℕ) where
         rw (e, k, drop-drop (length xs) at out)
         (sym (sets-eq xs out at h ∙ append_assoc (take at out) xs (drop (at + length xs) out)))
         ∙ put_all h
+
+-- octets that are put one after the other: what is left to put at i
+abbrev pub run_left : List ℕ → List ℕ → ℕ → ℕ → List ℕ
+run_left xs out at i = sets out (at + i) (drop i xs)
+
+module _ (xs out : List ℕ) (at : ℕ) where
+  pub run_all : run_left xs out at 0 ≡ sets out at xs
+  run_all = ap (λ (n : ℕ). sets out n xs) (add-zero at)
+
+  pub run_next : (i : ℕ) → i < length xs → run_left xs out at i ≡ run_left xs (set out (at + i) (get_or xs i 0)) at (i + 1)
+  run_next i h =
+      let e : suc (at + i) ≡ at + (i + 1) = omega arith in
+      ap (λ (l : List ℕ). sets out (at + i) l) (drop-cons xs i 0 h)
+      ∙ ap (λ (n : ℕ). sets (set out (at + i) (get_or xs i 0)) n (drop (suc i) xs)) e
+      ∙ ap (λ (n : ℕ). sets (set out (at + i) (get_or xs i 0)) (at + (i + 1)) (drop n xs)) (sym (add-one i))
+
+  pub run_end : (i : ℕ) → length xs ≤ i → run_left xs out at i ≡ out
+  run_end i h = ap (λ (l : List ℕ). sets out (at + i) l) (drop_of_length-le xs h)
 
 -- zeros, as many as the part has octets
 module _ (out : List ℕ) (at count : ℕ) where

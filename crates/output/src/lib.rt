@@ -14,12 +14,15 @@ fn has_room(out: &[u8], at: usize, count: usize) -> bool
     count <= out.len() && at <= out.len() - count
 }
 
-#[tactic(auto, using(crate::proofs::Output::put_none, crate::proofs::Output::put_part))]
+// Octet by octet: `copy_from_slice` between two lent slices is a call of memmove, which the archive for C would then ask
+// of its callers.
 pub fn put_octets(out: &mut [u8], at: usize, s: &[u8])
     ensures { out.new ≡ put_at out.old at s.now }
 {
     if has_room(out, at, s.len()) {
-        out[at..at + s.len()].copy_from_slice(s);
+        for i in 0..s.len() {
+            out[at + i] = s[i];
+        }
     }
 }
 
