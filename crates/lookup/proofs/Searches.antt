@@ -2,7 +2,8 @@
 use mathlib.Core.Path.{◌≡◌, refl, sym, ap, ◌∙◌}
 use Rattle.std.specs.Prelude.{Option, Some, None}
 use mathlib.Core.List.{List, [], ◌∷◌, ◌++◌, append-nil}
-use mathlib.Core.Bool.{Bool, true, false}
+use mathlib.Core.Bool.{Bool, true, false, ◌&&◌}
+use Rattle.std.proofs.Common.{eqb, ne_eqb}
 use Prim.Native.Nat.{ℕ, ◌+◌, ◌≤◌, ◌<◌, min}
 use native.Mathlib.Nat.{zero-add}
 use native.Mathlib.Numerals.{add-one}
@@ -81,6 +82,15 @@ counted found so_far = record { found = found; number = so_far + 1 }
 
 counted_same : {f g : Option ℕ} {n m : ℕ} → f ≡ g → n ≡ m → counted f n ≡ counted g m
 counted_same e f = rw (e, f)
+
+neither : (b c : Bool) → (b && (c && false)) ≡ false
+neither true true = refl
+neither true false = refl
+neither false c = refl
+
+-- an AVP of another code is none that the search looks for
+pub other_code : (a : Avp) (vendor code : ℕ) → (a.code ≡ code → ⊥) → is_at a 1 vendor code ≡ false
+other_code a vendor code n = rw (ne_eqb a.code code n) (neither (eqb a.depth 1) (eqb a.vendor vendor))
 
 module _ (before : Sought) (a : Avp) (position vendor code ordinal : ℕ) where
   pub next_other : is_at a 1 vendor code ≡ false → SoughtNext before a position vendor code ordinal before

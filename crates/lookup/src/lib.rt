@@ -3,10 +3,11 @@
 #![tactic(auto)]
 
 ghost use Rattle.std.specs.Prelude.{◌≡◌, ◌+◌, ◌<◌, length};
+ghost use Rattle.rules.specs.Walk.{most_avps};
 ghost use Rattle.rules.specs.Search.{is_at};
 ghost use Rattle.rules.specs.Record.{data_start, data_at};
 ghost use Rattle.numbers.specs.Numbers.{numbered_record};
-ghost use Rattle.lookup.specs.Promise.{IsSought};
+ghost use Rattle.lookup.specs.Promise.{SoughtNext, IsSought};
 
 use numbers::Numbers;
 use rules::{Avp, Record, Sought, limits};
@@ -39,6 +40,31 @@ pub fn data<'a>(record: Record, position: usize, s: &'a [u8]) -> &'a [u8]
     &s[start..end]
 }
 
+// What a search gives that has looked at some AVPs, once it looks at the next one too.
+fn with_next(
+    before: Sought,
+    a: Avp,
+    position: usize,
+    vendor: u32,
+    code: u32,
+    ordinal: usize,
+) -> Sought
+    requires { before.number < most_avps }
+    ensures { SoughtNext before a position vendor code ordinal result }
+{
+    if matches(a, vendor, code) {
+        let so_far = before.number;
+        let number = so_far + 1;
+        if so_far == ordinal {
+            let found = Some(position);
+            return Sought { found, number };
+        }
+        let found = before.found;
+        return Sought { found, number };
+    }
+    before
+}
+
 // The AVP at depth 1 with a vendor and code that has as many of them before it as the ordinal says, and how many there
 // are, in the record that the numbers stand for.
 pub fn search_numbers(numbers: &Numbers, vendor: u32, code: u32, ordinal: usize) -> Sought
@@ -49,11 +75,11 @@ pub fn search_numbers(numbers: &Numbers, vendor: u32, code: u32, ordinal: usize)
         number: 0,
     };
     for position in 0..numbers::used(numbers) {
-        if matches(numbers::get(numbers, position), vendor, code) {
-            if sought.number == ordinal {
-                sought.found = Some(position);
-            }
-            sought.number += 1;
+        let a = numbers::get(numbers, position);
+        // Most AVPs have another code: so each of them takes one test. With the three of `matches` for each the compiler
+        // does the counting for them too.
+        if a.code == code {
+            sought = with_next(sought, a, position, vendor, code, ordinal);
         }
     }
     sought
