@@ -1,4 +1,5 @@
 // 01, Commands at the edges, the cases that are not marked (p).
+use crate::notation::Command;
 use crate::{case, start};
 use std::io;
 
@@ -13,44 +14,50 @@ pub(crate) static VALUES: &[(&str, &str)] = &[(
 
 // 256 AVPs: the 11 of S and 245 Route-Records of 8 octets, of which any number is admitted (01, Rows, BTR). What comes
 // last is at 160 + 245 * 8 = 2120.
-fn judge_many_avps(rt: &(impl Print + AllocGlobal), label: &str, last: &str) -> io::Result<()> {
-    let mut command = case::command(rt.alloc(), start::S, "")?;
+fn put_many_avps(command: &mut Command, last: &str) -> io::Result<()> {
+    command.start(start::S)?;
     for _ in 0..245 {
         command.put("M282:")?;
     }
     command.put(last)?;
     command.set_length();
-    case::judge(rt, label, &command)
+    Ok(())
 }
 
-pub(crate) fn judge_counts(rt: &(impl Print + AllocGlobal)) -> io::Result<()> {
+fn judge_many_avps(rt: &impl Print, command: &mut Command, label: &str, last: &str) {
+    let put = put_many_avps(command, last);
+    case::judge(rt, label, put, command);
+}
+
+pub(crate) fn judge_counts(rt: &impl Print, command: &mut Command) {
     // 256 AVPs: no 7002; nothing else applies, and the command is accepted.
-    judge_many_avps(rt, "avps_256", "")?;
+    judge_many_avps(rt, command, "avps_256", "");
     // 257: 7002, with vendor and code 0 (01, What comes back).
-    judge_many_avps(rt, "avps_257", "M282:")?;
+    judge_many_avps(rt, command, "avps_257", "M282:");
     // Walk, check 1 stands before check 2: four stray octets behind 256 AVPs are 7002 too.
-    judge_many_avps(rt, "avps_256_and_stray_octets", "#00000000")
+    judge_many_avps(rt, command, "avps_256_and_stray_octets", "#00000000");
 }
 
 // S with one AVP behind it that the dictionary lacks, code 9999 without M, which fills the command to its length.
-fn judge_long_command(
-    rt: &(impl Print + AllocGlobal),
-    label: &str,
-    length: usize,
-) -> io::Result<()> {
-    let mut command = case::command(rt.alloc(), start::S, "")?;
+fn put_long_command(command: &mut Command, length: usize) -> io::Result<()> {
+    command.start(start::S)?;
     let avp = command.begin_avp("9999")?;
     command.fill(length)?;
     command.set_avp_length(avp);
     command.set_length();
-    case::judge(rt, label, &command)
+    Ok(())
 }
 
-pub(crate) fn judge_lengths(rt: &(impl Print + AllocGlobal)) -> io::Result<()> {
+fn judge_long_command(rt: &impl Print, command: &mut Command, label: &str, length: usize) {
+    let put = put_long_command(command, length);
+    case::judge(rt, label, put, command);
+}
+
+pub(crate) fn judge_lengths(rt: &impl Print, command: &mut Command) {
     // Length 16,384: no 7001; the command is accepted.
-    judge_long_command(rt, "length_16384", 16384)?;
+    judge_long_command(rt, command, "length_16384", 16384);
     // 16,388: 7001 at 1.
-    judge_long_command(rt, "length_16388", 16388)?;
+    judge_long_command(rt, command, "length_16388", 16388);
     // Header: no multiple of 4 is listed before above 16,384: 5015 at 1.
-    judge_long_command(rt, "length_16385", 16385)
+    judge_long_command(rt, command, "length_16385", 16385);
 }

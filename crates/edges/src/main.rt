@@ -10,49 +10,44 @@ mod header;
 mod kinds;
 mod limits;
 mod notation;
+mod print;
 mod record;
 mod rows;
 mod start;
 mod walks;
 
-use std::io;
+use notation::Command;
 
 // A start, and a line for each case that begins with it.
-fn judge_cases(rt: &(impl Print + AllocGlobal), cases: &[(&str, &str)]) -> io::Result<()> {
+fn judge_cases(rt: &impl Print, command: &mut Command, cases: &[(&str, &str)]) {
     for &(start, lines) in cases {
-        case::judge_lines(rt, start, lines)?;
+        case::judge_lines(rt, command, start, lines);
     }
-    Ok(())
 }
 
-fn print_records(rt: &(impl Print + AllocGlobal)) -> io::Result<()> {
-    record::print_s(rt)?;
-    record::print_flags(rt)?;
-    record::print_count_300(rt)?;
-    record::print_policies(rt)?;
-    record::print_refusal(rt)
+fn print_records(rt: &impl Print, command: &mut Command) {
+    record::print_s(rt, command);
+    record::print_flags(rt, command);
+    record::print_count_300(rt, command);
+    record::print_policies(rt, command);
+    record::print_refusal(rt, command);
 }
 
-fn judge_all(rt: &(impl Print + AllocGlobal)) -> io::Result<()> {
-    judge_cases(rt, limits::VALUES)?;
-    limits::judge_counts(rt)?;
-    limits::judge_lengths(rt)?;
+fn main(rt: HostRuntime) {
+    let mut command = Command::new();
+    judge_cases(&rt, &mut command, limits::VALUES);
+    limits::judge_counts(&rt, &mut command);
+    limits::judge_lengths(&rt, &mut command);
     for &(label, octets) in header::CASES {
-        case::judge_octets(rt, label, octets)?;
+        case::judge_octets(&rt, &mut command, label, octets);
     }
-    judge_cases(rt, walks::CASES)?;
-    judge_cases(rt, rows::CASES)?;
-    judge_cases(rt, exchanges::CASES)?;
-    judge_cases(rt, error_answers::CASES)?;
-    print_records(rt)?;
+    judge_cases(&rt, &mut command, walks::CASES);
+    judge_cases(&rt, &mut command, rows::CASES);
+    judge_cases(&rt, &mut command, exchanges::CASES);
+    judge_cases(&rt, &mut command, error_answers::CASES);
+    print_records(&rt, &mut command);
     // Names without vendor, with a vendor that has no entry, and of 3GPP.
     for vendor in [0, 10414, 10415] {
-        kinds::print_kinds(rt, vendor)?;
+        kinds::print_kinds(&rt, vendor);
     }
-    Ok(())
-}
-
-// What is printed is compared with the file `stdout`, so that a line that is lacking is seen there.
-fn main(rt: HostRuntime) {
-    let _ = judge_all(&rt);
 }
