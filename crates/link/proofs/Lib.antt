@@ -1,4 +1,7 @@
--- The laws of a stream's listing. One line, the lines of a piece:
+-- The laws of a stream's listing:
+-- the answer of a read:
+mod Inputs
+-- one line, the lines of a piece:
 mod Puts
 pub mod Steps
 mod Pieces

@@ -1,5 +1,5 @@
 -- What the functions of `link` promise. No contract can say which octets were read, or that written octets arrive.
-use Rattle.std.specs.Prelude.{◌≡◌, ℕ, ◌≤◌, Bool, true, not, ◌||◌, List, [], length, take, Result, Ok, Err, ◌==◌}
+use Rattle.std.specs.Prelude.{◌≡◌, ℕ, ◌≤◌, min, Bool, true, not, ◌||◌, List, [], length, take, Result, Ok, Err, ◌==◌}
 use Rattle.std.specs.Bool.{MatchBool}
 use Rattle.std.specs.declared.io.Error.{Error}
 use Rattle.fragments.specs.Link.{buffer_after}
@@ -14,6 +14,20 @@ piece_room = 4096
 
 abbrev pub text_room : ℕ
 text_room = 393216
+
+-- what a read into this room answered: how many octets, no more than the room has, or an error
+unfoldable pub input_by : Result ℕ Error → ℕ → Result ℕ Error
+input_by (Ok n) room = Ok (min n room)
+input_by (Err e) room = Err e
+
+-- octets that lie in this room
+abbrev pub InRoom : ℕ → Result ℕ Error → Type 0
+InRoom room (Ok count) = count ≤ room
+InRoom room (Err e) = Unit
+
+pub record InPiece (room : ℕ) (input : Result ℕ Error) : Type 0 where
+  pub inside : InRoom room input
+  pub short : room ≤ piece_room
 
 -- octets handed to the reader once
 pub record LineListed (l : Link) (octets : List ℕ) (count : ℕ) (l' : Link) : Type 0 where

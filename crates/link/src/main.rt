@@ -2,10 +2,10 @@
 // moves octets: what is printed for a piece of the stream, and at its end, the functions below promise.
 #![tactic(auto)]
 
-ghost use Rattle.std.specs.Prelude.{◌≡◌, ◌+◌, ◌≤◌, length, IfOk};
+ghost use Rattle.std.specs.Prelude.{◌≡◌, ◌+◌, ◌≤◌, length};
 ghost use Rattle.lines.specs.Promise.{PutWithin, line_room};
 ghost use Rattle.link.specs.Listing.{none_yet, line_by, tally_by, last_line};
-ghost use Rattle.link.specs.Promise.{LineListed, PieceListed, Printed, is_last, piece_room, text_room};
+ghost use Rattle.link.specs.Promise.{InPiece, LineListed, PieceListed, Printed, is_last, piece_room, text_room};
 
 use fragments::{Progress, State};
 use rules::limits;
@@ -140,8 +140,7 @@ impl Link {
     // input, where it gave none. After a read that failed no octet follows; one that a signal broke off counts as
     // failed.
     fn put_printed(&mut self, input: &io::Result<usize>, piece: &[u8])
-        requires short { length piece.now ≤ piece_room }
-        requires inside { IfOk input.now (λ count. count ≤ length piece.now) }
+        requires { InPiece (length piece.now) input.now }
         ensures { Printed input.now self.old piece.now self.new }
     {
         match input {
