@@ -1,5 +1,5 @@
 -- What the answer of a read says: octets that lie in the room, and a piece that is short.
-use Rattle.std.proofs.Common.{◌≡◌, refl, ap, ℕ, ◌≤◌, min, Result, Ok, Err, arith}
+use Rattle.std.proofs.Common.{◌≡◌, ℕ, ◌≤◌, min, Result, Ok, Err, arith}
 use Rattle.std.specs.declared.io.Error.{Error}
 use Rattle.link.specs.Promise.{piece_room, input_by, InRoom, InPiece}
 
@@ -11,9 +11,3 @@ module _ (room : ℕ) where
 
   pub read_in_piece : room ≤ piece_room → (r : Result ℕ Error) (i : Result ℕ Error) → i ≡ input_by r room → InPiece room i
   read_in_piece h r i e = record { inside = rw e (read_in_room r); short = h }
-
-  -- as a read promises it: its octets are taken as they are
-  pub read_as_given : (r : Result ℕ Error) → InRoom room r → r ≡ input_by r room
-  unfolding input_by
-  read_as_given (Ok n) h = ap Ok (omega arith)
-  read_as_given (Err e) h = refl

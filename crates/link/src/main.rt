@@ -5,7 +5,7 @@
 ghost use Rattle.std.specs.Prelude.{◌≡◌, ◌+◌, ◌≤◌, length};
 ghost use Rattle.lines.specs.Promise.{PutWithin, line_room};
 ghost use Rattle.link.specs.Listing.{none_yet, line_by, tally_by, last_line};
-ghost use Rattle.link.specs.Promise.{InPiece, LineListed, PieceListed, Printed, is_last, piece_room, text_room};
+ghost use Rattle.link.specs.Promise.{input_by, InPiece, LineListed, PieceListed, Printed, is_last, piece_room, text_room};
 
 use fragments::{Progress, State};
 use rules::limits;
@@ -137,8 +137,7 @@ impl Link {
     }
 
     // Puts what is to be printed for what a read gave: the lines of the octets, or the last line at the end of the
-    // input, where it gave none. After a read that failed no octet follows; one that a signal broke off counts as
-    // failed.
+    // input, where it gave none. After a read that failed no octet follows.
     fn put_printed(&mut self, input: &io::Result<usize>, piece: &[u8])
         requires { InPiece (length piece.now) input.now }
         ensures { Printed input.now self.old piece.now self.new }
@@ -148,6 +147,17 @@ impl Link {
             Ok(count) => self.list_piece(&piece[..*count]),
             Err(_) => self.end = 0,
         }
+    }
+}
+
+// What a read answered: no more octets than the piece has, or an error. One that a signal broke off counts as failed.
+#[tactic(auto, unfolding(crate::specs::Promise::input_by))]
+fn input_of(answer: io::Result<usize>, piece: &[u8]) -> io::Result<usize>
+    ensures { result ≡ input_by answer (length piece.now) }
+{
+    match answer {
+        Ok(given) => Ok(given.min(piece.len())),
+        Err(error) => Err(error),
     }
 }
 
@@ -174,7 +184,8 @@ fn main(rt: HostRuntime) {
         end: 0,
     };
     for _ in 0..u64::MAX {
-        let input = rt.stdin().read(&mut piece);
+        let answer = rt.stdin().read(&mut piece);
+        let input = input_of(answer, &piece);
         link.put_printed(&input, &piece);
         let written = rt.write_all(&link.text[..link.end]).is_ok();
         if link.tally.is_last(&input, written) {
