@@ -1,5 +1,5 @@
 -- What the answer of a read says: octets that lie in the room, and a piece that is short.
-use Rattle.std.proofs.Common.{◌≡◌, ℕ, ◌≤◌, min, Result, Ok, Err, arith}
+use Rattle.std.proofs.Common.{◌≡◌, ℕ, ◌≤◌, Result, Ok, Err, arith}
 use Rattle.std.specs.declared.io.Error.{Error}
 use Rattle.link.specs.Promise.{piece_room, input_by, InRoom, InPiece}
 
